@@ -32,8 +32,7 @@ The exit statuses are those that cdc6600 --help names.";
 const AFTER_REPLAY: &str = "\
 Examples:
   cdc6600 replay \"E40 I4\" < decks/two-adds.deck
-  cdc6600 replay --log FILE < decks/two-adds.deck
-  cdc6600 replay --log - --deck decks/two-adds.deck < FILE
+  (cat decks/two-adds.deck; echo E40 I4) | cdc6600 replay --log-follows
 
 The exit statuses are those that cdc6600 --help names.";
 
@@ -49,26 +48,6 @@ Example:
 
 Exit status: 0 once all is listed, else 1, 2, 6 or 7 as cdc6600 --help names them.";
 
-/// The source from which a deck is read.
-#[derive(Clone, Copy, Debug, Drop, PartialEq, Eq)]
-pub enum Source<'a> {
-    /// Standard input.
-    Input,
-    /// The file with this name.
-    File(&'a str),
-}
-
-/// The sources of the log and the deck of a replay. They are never both standard input.
-#[derive(Clone, Copy, Debug, Drop, PartialEq, Eq)]
-pub enum Replay<'a> {
-    /// The log is an argument of the command line.
-    Word { log: &'a str, deck: Source<'a> },
-    /// The log is in the file with this name.
-    File { log: &'a str, deck: Source<'a> },
-    /// The log is read from standard input, and the deck from the file with this name.
-    Input { deck: &'a str },
-}
-
 /// The request of a command line.
 #[derive(Clone, Copy, Debug, Drop, PartialEq, Eq)]
 pub enum Request<'a> {
@@ -76,8 +55,10 @@ pub enum Request<'a> {
     Run(Budget),
     /// Run a deck one instruction at a time, and execute at most this many instructions.
     RunSequentially(Budget),
-    /// Replay a log on a deck.
-    Replay(Replay<'a>),
+    /// Replay the log in this text on a deck.
+    Replay(&'a str),
+    /// Replay the log in the line that follows the deck.
+    ReplayFollowing,
     /// Answer the events of a schedule, and issue at most this many instructions.
     Events(Budget),
     /// List a deck's words.
@@ -115,25 +96,21 @@ fn run_command<'a>(alloc: Global) -> Result<Command<'a>, AllocError> {
 /// The command `replay`.
 fn replay_command<'a>(alloc: Global) -> Result<Command<'a>, AllocError> {
     let log = Arg::new(alloc, "LOG")
-        .required_unless_present("log")?
-        .conflicts_with("log")?
+        .required_unless_present("log-follows")?
+        .conflicts_with("log-follows")?
         .help("What the dump of a run has after LOG, as one argument");
-    let log_file = Arg::new(alloc, "log").long("log").value_name("FILE").help(
-        "Reads the log from FILE, or from standard input if FILE is -",
-    );
-    let deck_file = Arg::new(alloc, "deck")
-        .long("deck")
-        .value_name("FILE")
-        .help("Reads the deck from FILE instead of standard input");
+    let log_follows = Arg::new(alloc, "log-follows")
+        .long("log-follows")
+        .action(ArgAction::SetTrue)
+        .help("Reads the log from the line after the deck");
     Command::new(alloc, "replay")
         .about(
             "Goes through LOG on the deck on standard input, one instruction at a time, and prints the machine's dump",
         )
-        .override_usage("cdc6600 replay [--deck FILE] LOG|--log FILE")
+        .override_usage("cdc6600 replay LOG|--log-follows")
         .after_help(AFTER_REPLAY)
         .arg(log)?
-        .arg(log_file)?
-        .arg(deck_file)
+        .arg(log_follows)
 }
 
 /// The command `events`.
@@ -180,82 +157,32 @@ fn budget(matches: &ArgMatches<'_>) -> Option<Budget> {
     Budget::new(matches.get_one::<u64>("budget")?)
 }
 
-/// The source with this name: `-` is standard input.
-fn source_named(name: &str) -> Source<'_> {
-    if name == "-" {
-        Source::Input
-    } else {
-        Source::File(name)
-    }
-}
-
-/// Reasons for refusing words that `clap` accepts.
-#[derive(Clone, Copy, Drop)]
-enum Refused {
-    /// The words name no command. `clap` accepts no such words.
-    NoCommand,
-    /// The log and the deck would both be read from standard input.
-    OneInput,
-}
-
-impl Refused {
-    fn text(self) -> &'static str {
-        match self {
-            Refused::NoCommand => "no such command",
-            Refused::OneInput => {
-                "the log and the deck can't both be read from standard input; '--deck FILE' names the deck's file"
-            }
-        }
-    }
-}
-
 /// The request of the words after `run`.
-///
-/// # Errors
-/// `NoCommand` if the words have no budget. `clap` accepts no such words.
-fn run_asked_for<'a>(matches: &ArgMatches<'_>) -> Result<Request<'a>, Refused> {
-    let budget = budget(matches).ok_or(Refused::NoCommand)?;
+fn run_asked_for<'a>(matches: &ArgMatches<'_>) -> Option<Request<'a>> {
+    let budget = budget(matches)?;
     if matches.get_flag("sequential") {
-        Ok(Request::RunSequentially(budget))
+        Some(Request::RunSequentially(budget))
     } else {
-        Ok(Request::Run(budget))
+        Some(Request::Run(budget))
     }
 }
 
 /// The request of the words after `replay`.
-///
-/// # Errors
-/// The log and the deck would both be read from standard input.
-fn replay_asked_for<'a>(matches: &ArgMatches<'a>) -> Result<Replay<'a>, Refused> {
-    let deck = match matches.get_str("deck") {
-        Some(name) => source_named(name),
-        None => Source::Input,
-    };
-    if let Some(log) = matches.get_str("LOG") {
-        return Ok(Replay::Word { log, deck });
-    }
-    let name = matches.get_str("log").ok_or(Refused::NoCommand)?;
-    match (source_named(name), deck) {
-        (Source::File(log), deck) => Ok(Replay::File { log, deck }),
-        (Source::Input, Source::File(deck)) => Ok(Replay::Input { deck }),
-        (Source::Input, Source::Input) => Err(Refused::OneInput),
+fn replay_asked_for<'a>(matches: &ArgMatches<'a>) -> Request<'a> {
+    match matches.get_str("LOG") {
+        Some(log) => Request::Replay(log),
+        None => Request::ReplayFollowing,
     }
 }
 
-/// The request of words that `clap` accepted.
-///
-/// # Errors
-/// The reason, if the words are refused nevertheless.
-fn asked_for<'a>(matches: &ArgMatches<'a>) -> Result<Request<'a>, Refused> {
-    let Some(subcommand) = matches.subcommand() else {
-        return Err(Refused::NoCommand);
-    };
-    match subcommand {
+/// The request of words that `clap` accepted, or `None` if they make none. `clap` accepts no such words.
+fn asked_for<'a>(matches: &ArgMatches<'a>) -> Option<Request<'a>> {
+    match matches.subcommand()? {
         ("run", run) => run_asked_for(run),
-        ("replay", replay) => Ok(Request::Replay(replay_asked_for(replay)?)),
-        ("events", events) => Ok(Request::Events(budget(events).ok_or(Refused::NoCommand)?)),
-        ("list", _) => Ok(Request::List),
-        _ => Err(Refused::NoCommand),
+        ("replay", replay) => Some(replay_asked_for(replay)),
+        ("events", events) => Some(Request::Events(budget(events)?)),
+        ("list", _) => Some(Request::List),
+        _ => None,
     }
 }
 
@@ -267,7 +194,7 @@ pub fn read_arguments<'a>(alloc: Global, words: &'a [String]) -> Result<Request<
     let mut command = accepted(alloc)?;
     let matches = command.try_get_matches_from_mut(words)?;
     match asked_for(&matches) {
-        Ok(request) => Ok(request),
-        Err(refused) => Err(command.error(ErrorKind::ArgumentConflict, refused.text())?),
+        Some(request) => Ok(request),
+        None => Err(command.error(ErrorKind::MissingSubcommand, "no such command")?),
     }
 }

@@ -9,4 +9,4 @@
 mod arguments;
 mod version;
 
-pub use arguments::{Replay, Request, Source, read_arguments};
+pub use arguments::{Request, read_arguments};

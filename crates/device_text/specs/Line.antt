@@ -16,6 +16,10 @@ abbrev pub lines_of : List ℕ → List (List ℕ × List ℕ)
 lines_of [] = []
 lines_of (b ∷ bytes) = if b == 10 then ([], bytes) ∷ lines_of bytes else onto b (lines_of bytes)
 
+-- the first line was read, and `rest` are the bytes after it
+abbrev pub IsTaken : List (List ℕ × List ℕ) → List ℕ → Type 0
+IsTaken lines rest = (line : List ℕ) × (lines ≡ (line, rest) ∷ lines_of rest)
+
 -- the bytes left after reading their first line, which comes with the bytes after it. A line of more than 200 bytes is
 -- read up to its byte 201
 abbrev pub left_after : List ℕ → List ℕ × List ℕ → List ℕ

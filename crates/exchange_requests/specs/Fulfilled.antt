@@ -18,8 +18,8 @@ exchanges_after n (ReadAt a ∷ steps) = exchanges_after n steps
 exchanges_after n (Wrote a w ∷ steps) = exchanges_after n steps
 
 -- The next counted request isn't late after `now` instructions, when another request has its exchange or waits. The
--- last exchange was made after `last` instructions, and the counted request wasn't due then. The word in which it comes
--- due isn't over: a word has at most three instructions more.
+-- last exchange was made after `last` instructions, and the counted request wasn't due then. At most three instructions
+-- were issued since it came due. The word in which it came due has no more, but this definition doesn't look at words.
 unfoldable pub is_in_time : ℕ → ℕ → List (ℕ × ℕ) → Bool
 is_in_time last now [] = true
 is_in_time last now (ask ∷ asks) = nat_lt last ask.1 && nat_le now (ask.1 + 3)

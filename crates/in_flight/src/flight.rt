@@ -1,5 +1,5 @@
 ghost use Rattle.std.specs.Prelude.{◌≡◌, ◌<◌, ◌+◌, ◌^◌, suc, [], ◌∷◌, true, false, not, is_none, slice_index_or};
-ghost use Rattle.std.specs.Prelude.{slice_set, replicate, length, IfOk, IfSome, MatchOption, MatchResult, unwrap_or, Some, None};
+ghost use Rattle.std.specs.Prelude.{slice_set, replicate, length, IfOk, IfSome, MatchResult, unwrap_or, Some, None};
 ghost use Rattle.std.specs.List.{list_any};
 ghost use Rattle.instructions.specs.Each.{Pairs};
 ghost use Rattle.instructions.specs.Shape.{shape_of};
@@ -215,22 +215,19 @@ impl InFlight {
     }
 
     /// Takes the unit's instruction out of its unit. The rest of it waits: a reference in range in the lowest-numbered
-    /// free place of the hopper, a load out of range with +0 in its channel. Returns the rest. `None` if there is none,
-    /// or if no instruction holds the unit.
-    pub fn leave(&mut self, unit: Unit, rest: &Option<Relocated>) -> Option<Outstanding>
+    /// free place of the hopper, a load out of range with +0 in its channel. Nothing changes if no instruction holds the
+    /// unit.
+    pub fn leave(&mut self, unit: Unit, rest: &Option<Relocated>)
         requires apart { Pairs IsApart self.old.pending }
         requires rest { IfSome (located (seek (stage_at unit) self.old.pending))
             (λ s. IsRestOf (shape_of s.pending.instr) rest.now) }
         requires room { enters (outstanding_of 0 rest.now) ≡ true → is_none (place_for self.old.pending) ≡ false }
-        ensures left { MatchOption (located (seek (stage_at unit) self.old.pending))
-            (result ≡ None)
-            (λ s. result ≡ outstanding_of (unwrap_or (place_for self.old.pending) 0) rest.now) }
-        ensures after { self.new ≡ with_pending self.old
+        ensures { self.new ≡ with_pending self.old
             (replaced (seek (stage_at unit) self.old.pending) self.old.pending
             (λ m. kept m (outstanding_of (unwrap_or (place_for self.old.pending) 0) rest.now))) }
     {
         if self.slots.find_stage(unit).is_none() {
-            return None;
+            return;
         }
         let left = match rest {
             None => None,
@@ -250,7 +247,6 @@ impl InFlight {
         };
         self.slots.leave(unit, &left);
         self.board.release(unit);
-        left
     }
 
     /// Accepts the reference in a place of the hopper, whose bank is then busy. A load then has its word in its

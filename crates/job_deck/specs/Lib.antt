@@ -1,11 +1,8 @@
--- The texts that the program prints and answers, and those that it reads besides decks. SessionResult defines the
--- results of a session. SessionParts, in inner, relates the results of its parts to them, and LogLineParts relates the
--- fields of a line to the log that FollowingLog finds in it.
+-- The texts that the program prints and answers, and the schedules that it reads. SessionResult defines the results of
+-- a session; SessionParts, in inner, relates the results of its parts to them.
 -- Source: ours.
 pub mod Dump
 pub mod Listing
-pub mod LogText
-pub mod FollowingLog
 pub mod Replaying
 pub mod Schedule
 pub mod AnswerText

@@ -12,8 +12,8 @@ use Rattle.deck.specs.declared.deck.Deck.{Deck}
 use Rattle.deck.specs.declared.deck.Show.{Show}
 use Rattle.device_text.specs.Device.{WritesFront}
 use Rattle.job_deck.specs.Dump.{dump_text}
-use Rattle.job_deck.specs.FollowingLog.{LeavesAfterLog, log_line}
-use Rattle.job_deck.specs.LogText.{log_in}
+use Rattle.log_text.specs.FollowingLog.{LeavesAfterLog, following_line}
+use Rattle.log_text.specs.LogText.{log_in}
 
 -- the outcome of replaying the text of a log
 pub data Replayed : Type 0 where
@@ -75,5 +75,5 @@ ReplaysFollowing (Err (refusals.Deck m fault)) reading rest old new = (reading �
 ReplaysFollowing (Err refusals.Read) reading rest old new = Keeps old new
 ReplaysFollowing (Err refusals.OutOfMemory) reading rest old new = Keeps old new
 ReplaysFollowing result (Good deck n after) rest old new =
-    LeavesAfterLog after rest × Prints result (replayed deck (log_line after)) deck.shows old new
+    LeavesAfterLog after rest × Prints result (replayed deck (following_line after)) deck.shows old new
 ReplaysFollowing result (Bad n fault after) rest old new = ⊥

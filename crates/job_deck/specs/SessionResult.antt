@@ -1,6 +1,6 @@
 -- The result of a session, and the bytes that it reads and writes.
 -- Source: ours.
-use Rattle.std.specs.Prelude.{◌≡◌, ◌⊎◌, ℕ, ◌+◌, ◌≤◌, length, List, ◌∷◌, ◌++◌, Option, Result, Ok, Err}
+use Rattle.std.specs.Prelude.{◌≡◌, ◌⊎◌, ℕ, ◌+◌, ◌≤◌, length, List, ◌++◌, Option, Result, Ok, Err}
 use Rattle.std.specs.Io.KnownBytes.{Keeps, Appends}
 use Rattle.instructions.specs.declared.refusal.Refusal.{Refusal}
 use Rattle.instructions.specs.declared.refusal.Refusal.TheVariants as refusals
@@ -11,14 +11,10 @@ use Rattle.program_order.specs.Processor.{Processor, boot_processor}
 use Rattle.deck.specs.Deck.{Reading, Good, Bad}
 use Rattle.deck.specs.declared.deck.Deck.{Deck}
 use Rattle.deck.specs.declared.deck.Show.{Show}
-use Rattle.device_text.specs.Line.{IsText, lines_of}
+use Rattle.device_text.specs.Line.{IsTaken, IsText, lines_of}
 use Rattle.job_deck.specs.Schedule.{line_says, left_after_line}
 use Rattle.job_deck.specs.Session.{IsLast, IsReply, Session}
 use Rattle.job_deck.specs.declared.schedule.ScheduleLine.TheVariants.{Faulty}
-
--- the first line was read, and `rest` are the bytes after it
-abbrev pub IsTaken : List (List ℕ × List ℕ) → List ℕ → Type 0
-IsTaken lines rest = (line : List ℕ) × (lines ≡ (line, rest) ∷ lines_of rest)
 
 -- line n is at fault, and nothing was read past it. The bytes of xs before line n were read, and `lines` are the lines
 -- from line n on

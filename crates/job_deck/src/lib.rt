@@ -1,7 +1,6 @@
-//! The texts of the machine. This crate prints memory, machines and logs, and reads and replays logs. It also runs
-//! sessions: a schedule says a machine's events line by line, and the session answers each line. All texts are lines of
-//! bytes, in the formats of docs/use/formats.md. The crate re-exports the items for decks and devices of the crates
-//! below it.
+//! The texts of the machine. This crate prints memory, machines and logs, and replays logs. It also runs sessions: a
+//! schedule says a machine's events line by line, and the session answers each line. All texts are lines of bytes, in the
+//! formats of docs/use/formats.md. The crate re-exports the items for decks, logs and devices of the crates below it.
 //!
 //! Callers rely on `events`: it answers each line as `program_order` allows, before it reads the next line. The events
 //! of the lines and their printed answers lead from boot to the machine that `events` dumps. `dump` in `dumping` prints
@@ -12,9 +11,7 @@
 mod answering;
 mod dumping;
 mod ending;
-mod following_log;
 mod listing;
-mod logs;
 mod replaying;
 mod schedule;
 mod schedule_reading;
@@ -27,9 +24,8 @@ pub use device_text::{
     WriteFailed,
 };
 pub use dumping::{dump, dump_to};
-pub use following_log::read_log_from;
 pub use listing::{list, list_to};
-pub use logs::read_log;
+pub use log_text::{read_log, read_log_from};
 pub use replaying::{replay, replay_following, replay_following_to, replay_to};
 pub use schedule::{ScheduleLine, parse_schedule_line};
 pub use session::{booted, events, events_to};

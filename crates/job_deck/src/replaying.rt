@@ -3,15 +3,14 @@ ghost use Rattle.deck.specs.Deck.{deck};
 ghost use Rattle.device_text.specs.Device.{Moves, NothingWaits};
 ghost use Rattle.deck.specs.Reading.{is_read_failure};
 ghost use Rattle.job_deck.specs.Listing.{is_write_failure};
-ghost use Rattle.job_deck.specs.LogText.{steps_of_log};
+ghost use Rattle.log_text.specs.LogText.{steps_of_log};
 ghost use Rattle.job_deck.specs.Replaying.{replayed_steps, Prints, Replays, ReplaysFollowing};
 
 use crate::dumping::dump_to;
-use crate::following_log::read_log_from;
-use crate::logs::read_log;
 use deck::{Deck, read_deck_from};
 use device_text::{CheckedReader, CheckedWriter, Input, LineBuffer, Output};
 use instruction_table::Refusal;
+use log_text::{read_log, read_log_from};
 use sequential::{Log, State};
 use std::alloc::Global;
 use std::io::{Read, Write};

@@ -2,10 +2,10 @@
 //! This crate changes nothing; `machine` makes the events.
 //!
 //! Callers rely on each judgement: it returns exactly the first refusal that applies, in the order of the refusals'
-//! numbers. `issuing` judges an issue, `units` a finish, `exchanging` a request and its exchange, `accessing` a
-//! peripheral access; `working` names the next event that works on what is pending. Reads, stores and the memory events
-//! are judged in `in_flight`. Its tests are those of the machine, in `crates/machine_tests/src/event_tests.rt`. Begin
-//! with `judge_issue` in `issuing`.
+//! numbers. `issuing` judges an issue by E1 to E6, `units` a finish, `exchanging` a request and its exchange,
+//! `accessing` a peripheral access; `working` names the next event for the oldest pending instruction. `in_flight`
+//! judges E7 and E8 of an issue, reads, stores and the memory events. Its tests are those of the machine, in
+//! `crates/machine_tests/src/event_tests.rt`. Begin with `judge_issue` in `issuing`.
 #![tactic(auto)]
 
 mod accessing;

@@ -6,8 +6,8 @@
 //! with what the caller has then seen of the log.
 //!
 //! `locked_machine` defines the machine while its lock is held, and the invariant of the lock. `Seen` and `Naming` come
-//! from `progress_word`. docs/work/threads.md has an example. Its tests are in `crates/thread_tests/src/lock_tests.rt`
-//! and `crates/thread_tests/src/guard_tests.rt`. Begin with `Shared` in `shared`.
+//! from `progress_word`. docs/work/threads.md has an example. Its tests are in `crates/lock_tests/src/lock_tests.rt`
+//! and `crates/lock_tests/src/guard_tests.rt`. Begin with `Shared` in `shared`.
 #![tactic(auto)]
 
 mod locked_machine;

@@ -8,7 +8,6 @@ ghost use Rattle.in_flight.specs.Lookup.{is_pending};
 ghost use Rattle.program_order.specs.declared.event.Done.TheVariants.{Issued as DoneIssue, Word as DoneWord};
 ghost use Rattle.program_order.specs.declared.event.Event.TheVariants.{Issue, Read, Finish, Store, Accept, Return};
 ghost use Rattle.program_order.specs.declared.event.Event.TheVariants.{BankFree, Ask, Exchange, PpRead, PpWrite};
-ghost use Rattle.program_order.specs.Drain.{next_of};
 ghost use Rattle.program_order.specs.Events.{after, allowed};
 ghost use Rattle.program_order.specs.Headline.{IsFaultedRun};
 ghost use Rattle.program_order.specs.Refusals.{is_nothing, is_stranger, is_issue_refusal, is_read_refusal};
@@ -16,7 +15,7 @@ ghost use Rattle.program_order.specs.Refusals.{is_store_refusal, is_accept_refus
 ghost use Rattle.program_order.specs.Refusals.{is_access_refusal, is_exchange_refusal, may_refuse};
 ghost use Rattle.program_order.specs.Run.{IsAnswer, settled};
 ghost use Rattle.machine.specs.Tokens.{can_claim, finished_in, one_more, read_of, reading_in, refusal_to, refused};
-ghost use Rattle.machine.specs.Tokens.{rest_after, slot, unread_in};
+ghost use Rattle.machine.specs.Tokens.{slot, unread_in};
 ghost use Rattle.progress_word.specs.CallerKnowledge.{IsMade, Learnt, HasReplay, IsNoteOf, IsWhyOf, IsWordOf};
 ghost use Rattle.machine_lock.specs.Held.{IsAskedNext, IsCurrent, made_or_refused, answered, with_processor};
 ghost use Rattle.program_order.specs.Invariant.{IsReplay, IsWithinBudget};
@@ -24,10 +23,7 @@ ghost use Rattle.machine_lock.specs.inner.LockInvariant.{IsLogged, last_step};
 ghost use Rattle.progress_word.specs.inner.Rules.{IsKeeper, past};
 
 use instruction_table::Refusal;
-use machine::{
-    Answer, Computed, Done, Event, Finished, Loaded, Machine, Note, Outstanding, Reserved, Seat,
-    Snapshot,
-};
+use machine::{Answer, Computed, Done, Finished, Loaded, Machine, Note, Reserved, Seat, Snapshot};
 use progress_word::{Naming, Pass, Seen, Word};
 use signals::Wakeups;
 use std::alloc::Global;
@@ -327,27 +323,21 @@ impl<K: Naming> LockedMachine<K> {
         finished
     }
 
-    /// Stores the result of the token's reservation, as `Shared::store` does. Also returns the rest of the instruction:
-    /// its reference, in a place of the hopper or in its load channel.
+    /// Stores the result of the token's reservation, as `Shared::store` does.
     ///
     /// # Errors
     /// `ResultHeld`, `HopperFull`, `OutOfTurn` or `Stranger`, with the token.
-    pub fn store(
-        &mut self,
-        token: Finished,
-    ) -> Result<(Seat, Option<Outstanding>), (Refusal, Finished)>
+    pub fn store(&mut self, token: Finished) -> Result<Seat, (Refusal, Finished)>
         ensures answer { refusal_to (finished_in token.number (slot self.old.processor token.seat.unit))
             (allowed self.old.processor (Store token.seat.unit)) ≡ refused result }
         ensures after { MatchResult result
-            (λ stored. self.new ≡ with_processor self.old (after self.old.processor (Store token.seat.unit)))
+            (λ seat. self.new ≡ with_processor self.old (after self.old.processor (Store token.seat.unit)))
             (λ back. self.new ≡ self.old) }
-        ensures seat { IfOk result (λ stored. stored.0 ≡ one_more token) }
-        ensures rest { IfOk result (λ stored. stored.1
-            ≡ rest_after self.old.processor (slot self.old.processor token.seat.unit)) }
+        ensures seat { IfOk result (λ seat. seat ≡ one_more token) }
         ensures given_back { IfErr result
             (λ back. (back.1 ≡ token) × ((is_stranger back.0 || is_store_refusal back.0) ≡ true)) }
     {
-        let stored = self.machine.store_with_rest(token);
+        let stored = self.machine.store(token);
         self.machine.keeps_replay();
         self.wakeups.changed = self.wakeups.changed || stored.is_ok();
         stored
@@ -404,13 +394,6 @@ impl<K: Naming> LockedMachine<K> {
         self.machine.keeps_replay();
         freed?;
         Ok(())
-    }
-
-    /// The next event that takes the oldest pending instruction further, as `Machine::next_work` says.
-    pub fn next_work(&self) -> Option<Event>
-        ensures next { result ≡ next_of self.now.processor.pending self.now.processor.busy }
-    {
-        self.machine.next_work()
     }
 
     /// Returns the state, the log, the boot memory and the budget of the machine, if it is drained, as

@@ -350,7 +350,7 @@ impl<K: Naming> Shared<K> {
         let stored = machine.store(token);
         machine.leave_to_memory();
         self.release(machine);
-        stored.map(|(seat, _)| seat)
+        stored
     }
 
     /// Accepts the reference in a place of the hopper, 0 to 3: the event `Accept`.

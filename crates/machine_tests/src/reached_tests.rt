@@ -107,8 +107,8 @@ fn by_each_call(rt: HostRuntime) -> Result<(), Fail> {
     Ok(())
 }
 
-/// The snapshot of a drained machine that has the fault: its log is a beginning of the program's run, with the
-/// instruction that sets the fault. `None` if no snapshot can be taken, or if it has no fault.
+/// The snapshot of a drained machine that has the fault: its log since the last exchange is a beginning of the program's
+/// run that includes the instruction that sets the fault. `None` if no snapshot can be taken, or if it has no fault.
 fn faulted(machine: &Machine) -> Option<Snapshot>
     ensures { IfSome result (λ snapshot. IsFaultedRun snapshot.log snapshot.boot_memory snapshot.state) }
 {

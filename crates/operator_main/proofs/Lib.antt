@@ -1,3 +1,3 @@
 mod Performing
-mod Replaying
+mod Telling
 mod Unasked

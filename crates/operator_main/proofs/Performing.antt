@@ -13,9 +13,9 @@ use Rattle.job_deck.specs.SessionResult.{Performs}
 use Rattle.operator_terms.specs.declared.fault.ProgramFault.{ProgramFault}
 use Rattle.operator_terms.specs.declared.fault.ProgramFault.TheVariants as faults
 use Rattle.operator_terms.specs.declared.status.Status.{Status}
-use Rattle.operator_main.specs.declared.task.Task.{Task}
-use Rattle.operator_main.specs.declared.task.Task.TheVariants as works
-use Rattle.operator_main.specs.Task.{CarriesOut, Performed}
+use Rattle.command_line.specs.declared.arguments.Request.{Request}
+use Rattle.command_line.specs.declared.arguments.Request.TheVariants as requests
+use Rattle.operator_main.specs.Request.{CarriesOut, Performed}
 
 abbrev after_deck : Reading → List ℕ
 after_deck (Good whole n after) = after
@@ -26,27 +26,28 @@ unbegun : (reading : Reading) (budget : ℕ) (old : Option (List ℕ))
 unbegun (Good whole n after) budget old = inl (le_refl _, Keeps-refl old)
 unbegun (Bad n fault after) budget old = Keeps-refl old
 
-unbegun_there : (work : Task) (xs : List ℕ) (old : Option (List ℕ))
-    → CarriesOut work (Err (faults.Refused refusals.OutOfMemory)) xs (after_deck (deck xs)) old old
-unbegun_there (works.Run budget) xs old = Keeps-refl old
-unbegun_there (works.RunSequentially budget) xs old = (Err refusals.OutOfMemory, Keeps-refl old, refl)
-unbegun_there (works.Replay log) xs old = (Err refusals.OutOfMemory, Keeps-refl old, refl)
-unbegun_there (works.Events budget) xs old = (Err refusals.OutOfMemory, unbegun (deck xs) budget old, refl)
-unbegun_there works.List xs old = (Err refusals.OutOfMemory, Keeps-refl old, refl)
+unbegun_there : (request : Request) (xs : List ℕ) (old : Option (List ℕ))
+    → CarriesOut request (Err (faults.Refused refusals.OutOfMemory)) xs (after_deck (deck xs)) old old
+unbegun_there (requests.Run budget) xs old = Keeps-refl old
+unbegun_there (requests.RunSequentially budget) xs old = (Err refusals.OutOfMemory, Keeps-refl old, refl)
+unbegun_there (requests.Replay log) xs old = (Err refusals.OutOfMemory, Keeps-refl old, refl)
+unbegun_there requests.ReplayFollowing xs old = (Err refusals.OutOfMemory, Keeps-refl old, refl)
+unbegun_there (requests.Events budget) xs old = (Err refusals.OutOfMemory, unbegun (deck xs) budget old, refl)
+unbegun_there requests.List xs old = (Err refusals.OutOfMemory, Keeps-refl old, refl)
 
-left_there : (work : Task) (input old : Option (List ℕ))
+left_there : (request : Request) (input old : Option (List ℕ))
     → Moves input (option_map (λ xs. after_deck (deck xs)) input)
-    (λ xs ys. CarriesOut work (Err (faults.Refused refusals.OutOfMemory)) xs ys old old)
-left_there work None old = tt
-left_there work (Some xs) old = unbegun_there work xs old
+    (λ xs ys. CarriesOut request (Err (faults.Refused refusals.OutOfMemory)) xs ys old old)
+left_there request None old = tt
+left_there request (Some xs) old = unbegun_there request xs old
 
 -- there is no memory for the buffer
-pub performed_nothing : (work : Task) (input old : Option (List ℕ))
-    → Performed work (Err (faults.Refused refusals.OutOfMemory)) input old old
-performed_nothing work input old =
+pub performed_nothing : (request : Request) (input old : Option (List ℕ))
+    → Performed request (Err (faults.Refused refusals.OutOfMemory)) input old old
+performed_nothing request input old =
     record {
       rest = option_map (λ xs. after_deck (deck xs)) input;
-      carried_out = left_there work input old;
+      carried_out = left_there request input old;
     }
 
 -- what is behind the buffer of a reader that was just made is what is left to read
@@ -59,14 +60,14 @@ fresh_reader remaining r inner i b k =
     ap (λ n. if n == 0 then None else prepend_known (reader_buffer r) (remaining r.inner)) k ∙ whole
 
 -- the work is done between devices over the input and the output
-pub performed : (work : Task) (found end : Result Status ProgramFault)
+pub performed : (request : Request) (found end : Result Status ProgramFault)
     (input old start rest first last new : Option (List ℕ)) → found ≡ end → start ≡ input → first ≡ old → last ≡ new
-    → Moves start rest (λ xs ys. CarriesOut work found xs ys first last) → Performed work end input old new
-performed work found end input old start rest first last new e s f l m =
-    subst (λ x. Performed work x input old new) e (record {
+    → Moves start rest (λ xs ys. CarriesOut request found xs ys first last) → Performed request end input old new
+performed request found end input old start rest first last new e s f l m =
+    subst (λ x. Performed request x input old new) e (record {
       rest = rest;
       carried_out =
-          subst (λ x. Moves x rest (λ xs ys. CarriesOut work found xs ys old new)) s
-          (subst (λ x. Moves start rest (λ xs ys. CarriesOut work found xs ys x new)) f
-          (subst (λ x. Moves start rest (λ xs ys. CarriesOut work found xs ys first x)) l m));
+          subst (λ x. Moves x rest (λ xs ys. CarriesOut request found xs ys old new)) s
+          (subst (λ x. Moves start rest (λ xs ys. CarriesOut request found xs ys x new)) f
+          (subst (λ x. Moves start rest (λ xs ys. CarriesOut request found xs ys first x)) l m));
     })

@@ -1,5 +1,4 @@
 -- The work of the program, and its end.
 -- Source: ours.
-pub mod Task
 pub mod Request
 pub mod Program

@@ -1,15 +1,10 @@
 //! Tests of calls of the four commands with their whole output, and of the command lines that are accepted. decks/ has
 //! more calls.
 
-use super::program::program;
 use super::progress::{may_take_long, show};
-use super::test_program::{Case, NO_FILES, OneFile, TWO_ADDS, TWO_ADDS_DUMP, expect, words};
-use std::process::Abort;
-use std::sync::Wait;
+use super::test_program::{Case, TWO_ADDS, TWO_ADDS_DUMP, called, expect, words};
 use std::sync::atomic::AtomicU64;
 use std::test::Fail;
-use std::thread::Threads;
-use std::time::Clock;
 
 /// The listing of the deck.
 const TWO_ADDS_LIST: &[u8] = b"\
@@ -19,11 +14,85 @@ const TWO_ADDS_LIST: &[u8] = b"\
     000100 71100000057120000003 SX1 B0+5; SX2 B0+3\n\
     000101 36312374214600000000 IX3 X1+X2; IX4 X2-X1; NO; PS\n";
 
-const CASES: [Case<'static>; 6] = [
+/// The output of a run of the first three instructions of the deck.
+const TWO_ADDS_CUT_SHORT: &[u8] = b"\
+    P 000001 PARCEL 1 HELD 36312374214600000000\n\
+    HALT running FAULT none\n\
+    RA 000100 FL 000020 EM 000000\n\
+    A 000000 000000 000000 000000 000000 000000 000000 000000\n\
+    B 000000 000000 000000 000000 000000 000000 000000 000000\n\
+    X0 00000000000000000000\n\
+    X1 00000000000000000005\n\
+    X2 00000000000000000003\n\
+    X3 00000000000000000010\n\
+    X4 00000000000000000000\n\
+    X5 00000000000000000000\n\
+    X6 00000000000000000000\n\
+    X7 00000000000000000000\n\
+    M 000100 71100000057120000003\n\
+    M 000101 36312374214600000000\n\
+    LOG E40 I3\n";
+
+/// A deck whose package at 40 has a program that stops.
+const ASKING: &[u8] = b"\
+    core 256\n\
+    at 41\n\
+    word 00000100000000000000\n\
+    word 00000020000000000000\n\
+    at 100\n\
+    code PS\n\
+    start 40\n\
+    end\n";
+
+/// A schedule that makes requests for exchanges.
+const ASKING_SCHEDULE: &[u8] = b"\
+    issue\n\
+    exchange\n\
+    ask 361\n\
+    ask 360\n\
+    ask 40\n\
+    exchange\n\
+    issue\n\
+    issue\n\
+    ask 40\n\
+    exchange\n\
+    issue\n\
+    end\n";
+
+/// The answers to the schedule, and the dump.
+const ASKING_ANSWERS: &[u8] = b"\
+    E1 halted stop\n\
+    E15 nothing\n\
+    E19 package range\n\
+    ok\n\
+    E17 exchange busy\n\
+    ok\n\
+    ok\n\
+    E1 halted fetch\n\
+    ok\n\
+    ok\n\
+    ok\n\
+    P 000000 PARCEL 0 HELD 00000460004600046000\n\
+    HALT stop FAULT none\n\
+    RA 000100 FL 000020 EM 000000\n\
+    A 000000 000000 000000 000000 000000 000000 000000 000000\n\
+    B 000000 000000 000000 000000 000000 000000 000000 000000\n\
+    X0 00000000000000000000\n\
+    X1 00000000000000000000\n\
+    X2 00000000000000000000\n\
+    X3 00000000000000000000\n\
+    X4 00000000000000000000\n\
+    X5 00000000000000000000\n\
+    X6 00000000000000000000\n\
+    X7 00000000000000000000\n\
+    LOG E360 I1 E40 I1\n";
+
+const CASES: [Case<'static>; 12] = [
     Case {
         name: "a run",
         arguments: &["run"],
-        input: TWO_ADDS,
+        deck: TWO_ADDS,
+        rest: b"",
         status: 0,
         printed: TWO_ADDS_DUMP,
         told: b"",
@@ -31,15 +100,62 @@ const CASES: [Case<'static>; 6] = [
     Case {
         name: "a run of one instruction at a time",
         arguments: &["run", "--sequential"],
-        input: TWO_ADDS,
+        deck: TWO_ADDS,
+        rest: b"",
         status: 0,
         printed: TWO_ADDS_DUMP,
         told: b"",
     },
     Case {
+        name: "a run whose budget is used up",
+        arguments: &["run", "--budget", "3"],
+        deck: TWO_ADDS,
+        rest: b"",
+        status: 5,
+        printed: TWO_ADDS_CUT_SHORT,
+        told: b"",
+    },
+    Case {
+        name: "a sequential run whose budget is used up",
+        arguments: &["run", "--sequential", "--budget", "3"],
+        deck: TWO_ADDS,
+        rest: b"",
+        status: 5,
+        printed: TWO_ADDS_CUT_SHORT,
+        told: b"",
+    },
+    Case {
         name: "the replay of its log",
         arguments: &["replay", "E40 I6"],
-        input: TWO_ADDS,
+        deck: TWO_ADDS,
+        rest: b"",
+        status: 0,
+        printed: TWO_ADDS_DUMP,
+        told: b"",
+    },
+    Case {
+        name: "the replay of a beginning of its log",
+        arguments: &["replay", "E40 I3"],
+        deck: TWO_ADDS,
+        rest: b"",
+        status: 5,
+        printed: TWO_ADDS_CUT_SHORT,
+        told: b"",
+    },
+    Case {
+        name: "the replay of the log after the deck",
+        arguments: &["replay", "--log-follows"],
+        deck: TWO_ADDS,
+        rest: b"E40 I6\nmore\n",
+        status: 0,
+        printed: TWO_ADDS_DUMP,
+        told: b"",
+    },
+    Case {
+        name: "the replay of a log without a line end",
+        arguments: &["replay", "--log-follows"],
+        deck: TWO_ADDS,
+        rest: b"E40 I6",
         status: 0,
         printed: TWO_ADDS_DUMP,
         told: b"",
@@ -47,26 +163,38 @@ const CASES: [Case<'static>; 6] = [
     Case {
         name: "a list of words and instructions",
         arguments: &["list"],
-        input: TWO_ADDS,
+        deck: TWO_ADDS,
+        rest: b"more\n",
         status: 0,
         printed: TWO_ADDS_LIST,
         told: b"",
     },
     Case {
+        name: "a session",
+        arguments: &["events"],
+        deck: ASKING,
+        rest: ASKING_SCHEDULE,
+        status: 0,
+        printed: ASKING_ANSWERS,
+        told: b"",
+    },
+    Case {
         name: "a session whose schedule has no end",
         arguments: &["events"],
-        input: b"core 256\nstart 0\nend\nask 361\nask 360\n",
+        deck: b"core 256\nstart 0\nend\n",
+        rest: b"ask 361\nask 360\n",
         status: 1,
         printed: b"E19 package range\nok\n",
         told: b"cdc6600: E20 line 6: no end\n",
     },
     Case {
-        name: "a log that is none",
-        arguments: &["replay", "E40 I2 I2"],
-        input: TWO_ADDS,
-        status: 2,
-        printed: b"",
-        told: b"cdc6600: bad log\n",
+        name: "the version",
+        arguments: &["--version"],
+        deck: b"",
+        rest: b"",
+        status: 0,
+        printed: b"cdc6600 0.1.0\n",
+        told: b"",
     },
 ];
 
@@ -96,13 +224,9 @@ const USAGES: [Usage<'static>; 24] = [
     (&["help"], 0, "A CDC 6600"),
     (&["help", "run"], 0, "Runs the deck"),
     (&["help", "walk"], 2, "error: "),
-    (
-        &["replay", "--log", "-"],
-        2,
-        "error: the log and the deck can't both be",
-    ),
-    (&["replay", "--log", "a"], 2, "error: a can't be read: "),
-    (&["replay", "--log", "a", "E40"], 2, "error: "),
+    (&["replay", "--log-follows", "E40"], 2, "error: "),
+    (&["replay", "--log-follows=E40"], 2, "error: "),
+    (&["replay", "--log", "a"], 2, "error: "),
     (&["run", "more"], 2, "error: "),
     (&["run", "--sequential", "more"], 2, "error: "),
     (&["run", "--budget"], 2, "error: "),
@@ -112,29 +236,6 @@ const USAGES: [Usage<'static>; 24] = [
     (&["list", "--budget", "3"], 2, "error: "),
     (&["events", "--sequential"], 2, "error: "),
 ];
-
-/// Calls the program with these arguments. Returns the exit status, the output, the text on the fault stream, and the
-/// number of input bytes left.
-fn left_by(
-    rt: &(impl Abort + AllocGlobal + Threads + Wait + Clock + Sync),
-    arguments: &[&str],
-    input: &[u8],
-) -> Result<(u8, Vec<u8>, Vec<u8>, usize), Fail> {
-    let words = words(rt.alloc(), arguments)?;
-    let mut input = input;
-    let mut output = Vec::new(rt.alloc());
-    let mut faults = Vec::new(rt.alloc());
-    let status = program(
-        rt,
-        rt.alloc(),
-        words.as_slice(),
-        &NO_FILES,
-        &mut input,
-        &mut output,
-        &mut faults,
-    );
-    Ok((status, output, faults, input.len()))
-}
 
 /// A run and a replay may take long. Nothing is shown for work that has ended.
 #[test]
@@ -153,7 +254,8 @@ fn shows_nothing_at_the_end(rt: HostRuntime) -> Result<(), Fail> {
 #[test]
 fn usage(rt: HostRuntime) -> Result<(), Fail> {
     for (arguments, status, begins) in &USAGES {
-        let (ended, output, faults, left) = left_by(&rt, arguments, b"core 31\n")?;
+        let mut input = b"core 31\n".as_slice();
+        let (ended, output, faults) = called(&rt, arguments, &mut input)?;
         let (told, untold) = if *status == 0 {
             (output, faults)
         } else {
@@ -161,63 +263,10 @@ fn usage(rt: HostRuntime) -> Result<(), Fail> {
         };
         let has_begun = told.as_slice().starts_with(begins.as_bytes());
         assert_eq!(rt;
-            (ended, has_begun, untold.is_empty(), left),
+            (ended, has_begun, untold.is_empty(), input.len()),
             (*status, true, true, 8),
             "{begins}"
         );
-    }
-    Ok(())
-}
-
-/// Calls of `replay` with the name of a file: the arguments, the bytes of the file, the bytes of standard input, and
-/// the exit status.
-const FILE_CASES: [(&[&str], &[u8], &[u8], u8); 8] = [
-    (&["replay", "--log", "a"], b"E40 I6", TWO_ADDS, 0),
-    (&["replay", "--log=a"], b"E40 I6\n", TWO_ADDS, 0),
-    (
-        &["replay", "--log", "a", "--deck", "-"],
-        b"E40 I6\n",
-        TWO_ADDS,
-        0,
-    ),
-    (&["replay", "--deck", "a", "E40 I6"], TWO_ADDS, b"", 0),
-    (
-        &["replay", "--deck", "a", "--log", "-"],
-        TWO_ADDS,
-        b"E40 I6\n",
-        0,
-    ),
-    (&["replay", "--log", "a"], b"E40 I6\n\n", TWO_ADDS, 2),
-    (&["replay", "--log", "a"], b"E40 I6\xff", TWO_ADDS, 2),
-    (&["replay", "--log", "a"], b"", TWO_ADDS, 2),
-];
-
-/// The log and the deck may each be in a file. A bad log is refused after the deck is read.
-#[test]
-fn replays_from_files(rt: HostRuntime) -> Result<(), Fail> {
-    for (texts, bytes, input, status) in FILE_CASES {
-        let words = words(rt.alloc(), texts)?;
-        let mut output = Vec::new(rt.alloc());
-        let mut faults = Vec::new(rt.alloc());
-        let file = OneFile { name: "a", bytes };
-        let mut input = input;
-        let answer = program(
-            &rt,
-            rt.alloc(),
-            words.as_slice(),
-            &file,
-            &mut input,
-            &mut output,
-            &mut faults,
-        );
-        assert_eq!(rt; answer, status);
-        if status == 0 {
-            assert_eq!(rt; output.as_slice(), TWO_ADDS_DUMP);
-            assert!(rt; faults.is_empty());
-        } else {
-            assert_eq!(rt; faults.as_slice(), b"cdc6600: bad log\n".as_slice());
-            assert!(rt; output.is_empty());
-        }
     }
     Ok(())
 }

@@ -1,10 +1,14 @@
 ghost use Rattle.std.specs.Prelude.{Some};
 
-use super::program::program;
-use super::test_program::{NO_FILES, TWO_ADDS, TWO_ADDS_DUMP, words};
+use super::program::{program, program_at_terminal};
+use super::test_program::{TWO_ADDS, TWO_ADDS_DUMP, words};
 use std::io;
 use std::io::{ErrorKind, Read, Write};
+use std::process::Abort;
+use std::sync::Wait;
 use std::test::Fail;
+use std::thread::Threads;
+use std::time::Clock;
 
 /// A reader of bytes in memory, a few per read. Reads fail from read number `fails_from` on.
 #[derive(Drop)]
@@ -73,7 +77,6 @@ fn failing_reads(rt: HostRuntime) -> Result<(), Fail> {
             &rt,
             rt.alloc(),
             words.as_slice(),
-            &NO_FILES,
             &mut input,
             &mut output,
             &mut faults,
@@ -107,7 +110,6 @@ fn failing_writes(rt: HostRuntime) -> Result<(), Fail> {
             &rt,
             rt.alloc(),
             words.as_slice(),
-            &NO_FILES,
             &mut input,
             &mut output,
             &mut faults,
@@ -152,7 +154,6 @@ fn failing_faults(rt: HostRuntime) -> Result<(), Fail> {
             &rt,
             rt.alloc(),
             words.as_slice(),
-            &NO_FILES,
             &mut input,
             &mut output,
             &mut faults,
@@ -183,29 +184,63 @@ impl Write for Counting {
     }
 }
 
-/// A fault line is written in one call, so that the lines of programs that run at the same time don't mix.
-#[test]
-fn tells_a_fault_at_once(rt: HostRuntime) -> Result<(), Fail> {
+/// The text of a fault is written in one call, so that the lines of programs that run at the same time don't mix. It is
+/// one line, and at a terminal a second one with the position of the fault, if the fault is in a line.
+const TOLD: [(&[u8], &[u8], &[u8]); 4] = [
+    (
+        b"core 31\n",
+        b"cdc6600: E20 line 1: size\n",
+        b"cdc6600: E20 line 1: size\ncdc6600: column 6: '31'\n",
+    ),
+    (
+        b"core 256\nput 7\n",
+        b"cdc6600: E20 line 2: unknown\n",
+        b"cdc6600: E20 line 2: unknown\ncdc6600: column 1: 'put'\n",
+    ),
+    (
+        b"core 256\ncode NO; FX1 X2+X3\n",
+        b"cdc6600: E20 line 2: instruction\n",
+        b"cdc6600: E20 line 2: instruction\n\
+        cdc6600: column 10: 'FX1 X2+X3' is floating point, which isn't implemented\n",
+    ),
+    (
+        b"core 256\n",
+        b"cdc6600: E20 line 2: no end\n",
+        b"cdc6600: E20 line 2: no end\n",
+    ),
+];
+
+/// Expects that the program tells this text in one call, at a terminal or elsewhere.
+fn expect_told(
+    rt: &(impl Abort + AllocGlobal + Threads + Wait + Clock + Sync),
+    mut deck: &[u8],
+    told: &[u8],
+    is_at_terminal: bool,
+) -> Result<(), Fail> {
     let words = words(rt.alloc(), ["list"].as_slice())?;
+    let mut output = Vec::new(rt.alloc());
     let mut faults = Counting {
         bytes: Vec::new(rt.alloc()),
         calls: 0,
     };
-    let mut output = Vec::new(rt.alloc());
-    let answer = program(
-        &rt,
-        rt.alloc(),
-        words.as_slice(),
-        &NO_FILES,
-        &mut b"core 256\nput 7\n".as_slice(),
-        &mut output,
-        &mut faults,
-    );
+    let (alloc, words) = (rt.alloc(), words.as_slice());
+    let answer = if is_at_terminal {
+        program_at_terminal(rt, alloc, words, &mut deck, &mut output, &mut faults)
+    } else {
+        program(rt, alloc, words, &mut deck, &mut output, &mut faults)
+    };
     assert_eq!(rt;
-        faults.bytes.as_slice(),
-        b"cdc6600: E20 line 2: unknown, column 1: 'put'\n".as_slice()
+        (answer, faults.bytes.as_slice(), faults.calls),
+        (1, told, 1)
     );
-    assert_eq!(rt; faults.calls, 1);
-    assert_eq!(rt; answer, 1);
+    Ok(())
+}
+
+#[test]
+fn tells_a_fault_at_once(rt: HostRuntime) -> Result<(), Fail> {
+    for (deck, told, told_at_terminal) in TOLD {
+        expect_told(&rt, deck, told, false)?;
+        expect_told(&rt, deck, told_at_terminal, true)?;
+    }
     Ok(())
 }

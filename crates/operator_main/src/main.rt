@@ -3,20 +3,18 @@
 //!
 //! `main` calls `program::program` with the words of the command line and exits with the status that it returns. The
 //! contract of `program` says what it does with its input, its output and its fault stream, and that the exit status
-//! matches that. It doesn't say which words make which request. `main` buffers the output, so that printing a piece
-//! takes no system call. `progress` shows at a terminal that a long run is still going.
+//! matches that. It doesn't say which words make which request. If standard error is a terminal, `main` calls
+//! `program_at_terminal` instead, which also shows the position of the fault in a refused line. `main` buffers the
+//! output, so that printing a piece takes no system call. `progress` shows at a terminal that a long run is still going.
 //!
 //! Its tests call `program`. Their first table is `CASES` in `command_tests`: a call of each command with its whole
-//! output. Begin with `program::program`.
+//! output. `end_tests` has the exit statuses of machines that halt or fault, and `fault_tests` the fault lines. Begin
+//! with `program::program`.
 #![tactic(auto)]
 
-mod files;
-mod log_text;
 mod program;
 mod progress;
-mod task;
 
-use files::SystemFiles;
 use instruction_table::Refusal;
 use operator_terms::ProgramFault;
 use std::io::{BufWriter, IsTerminal};
@@ -35,14 +33,15 @@ fn main(rt: HostRuntime) -> ExitCode {
     };
     let _ = words.next();
     let Ok(words) = words.collect::<Vec<String>>(rt.alloc()) else {
-        return ExitCode::from(program::report_fault(&mut stderr, NO_MEMORY, b""));
+        return ExitCode::from(program::report_fault(&mut stderr, NO_MEMORY));
     };
     let Ok(mut output) = BufWriter::new(rt.alloc(), rt.stdout()) else {
-        return ExitCode::from(program::report_fault(&mut stderr, NO_MEMORY, b""));
+        return ExitCode::from(program::report_fault(&mut stderr, NO_MEMORY));
     };
+    let is_at_terminal = stderr.is_terminal();
     // Progress isn't shown while the deck is being typed at a terminal.
-    let is_shown = progress::may_take_long(words.as_slice())
-        && stderr.is_terminal()
+    let is_shown = is_at_terminal
+        && progress::may_take_long(words.as_slice())
         && !rt.stdin().is_terminal();
     let ended = AtomicU64::new(0);
     thread::scope(thread::scope_env(), &rt, |scope| {
@@ -51,15 +50,12 @@ fn main(rt: HostRuntime) -> ExitCode {
             let (runtime, ended) = (&rt, &ended);
             let _ = scope.spawn(move || progress::show(runtime, &mut terminal, ended));
         }
-        let status = program::program(
-            &rt,
-            rt.alloc(),
-            words.as_slice(),
-            &SystemFiles(&rt),
-            &mut rt.stdin(),
-            &mut output,
-            &mut stderr,
-        );
+        let (alloc, words, input) = (rt.alloc(), words.as_slice(), &mut rt.stdin());
+        let status = if is_at_terminal {
+            program::program_at_terminal(&rt, alloc, words, input, &mut output, &mut stderr)
+        } else {
+            program::program(&rt, alloc, words, input, &mut output, &mut stderr)
+        };
         ended.store(1, Ordering::SeqCst);
         ended.wake_all();
         ExitCode::from(status)
@@ -70,5 +66,9 @@ fn main(rt: HostRuntime) -> ExitCode {
 mod command_tests;
 #[cfg(test)]
 mod device_tests;
+#[cfg(test)]
+mod end_tests;
+#[cfg(test)]
+mod fault_tests;
 #[cfg(test)]
 mod test_program;

@@ -1,11 +1,8 @@
 //! Fixtures shared by the tests: calls of the program, and a deck.
 
-ghost use Rattle.std.specs.Prelude.{Some};
-
-use super::files::Opener;
 use super::program::program;
 use std::alloc::{AllocError, Global};
-use std::io;
+use std::io::Read;
 use std::process::Abort;
 use std::sync::Wait;
 use std::test::Fail;
@@ -20,50 +17,21 @@ pub fn words(alloc: Global, texts: &[&str]) -> Result<Vec<String>, AllocError> {
     Ok(all)
 }
 
-/// The files of a test: one file with this name and these bytes.
-#[derive(Clone, Copy, Drop)]
-pub struct OneFile<'a> {
-    pub name: &'a str,
-    pub bytes: &'a [u8],
-}
-
-impl<'a> Opener for OneFile<'a> {
-    type Opened = &'a [u8];
-
-    ghost contents = { λ file name. Some file.bytes.now };
-
-    fn open(&self, name: &str) -> io::Result<&'a [u8]> {
-        if name == self.name {
-            Ok(self.bytes)
-        } else {
-            Err(io::Error::from(io::ErrorKind::NotFound))
-        }
-    }
-}
-
-/// Files of which none can be named, because no word of a command line contains a zero byte.
-pub const NO_FILES: OneFile<'static> = OneFile {
-    name: "\0",
-    bytes: b"",
-};
-
 /// Calls the program with these arguments and this input. Returns the exit status, the output and the text on the fault
 /// stream.
-pub fn called(
-    rt: &(impl Abort + AllocGlobal + Threads + Wait + Clock + Sync),
+pub fn called<R: Read>(
+    rt: &(impl AllocGlobal + Threads + Wait + Clock + Sync),
     texts: &[&str],
-    input: &[u8],
-) -> Result<(u8, Vec<u8>, Vec<u8>), Fail> {
+    input: &mut R,
+) -> Result<(u8, Vec<u8>, Vec<u8>), AllocError> {
     let words = words(rt.alloc(), texts)?;
-    let mut input = input;
     let mut output = Vec::new(rt.alloc());
     let mut faults = Vec::new(rt.alloc());
     let status = program(
         rt,
         rt.alloc(),
         words.as_slice(),
-        &NO_FILES,
-        &mut input,
+        input,
         &mut output,
         &mut faults,
     );
@@ -76,7 +44,9 @@ pub struct Case<'a> {
     /// The subject of the case.
     pub name: &'a str,
     pub arguments: &'a [&'a str],
-    pub input: &'a [u8],
+    pub deck: &'a [u8],
+    /// The input after the deck.
+    pub rest: &'a [u8],
     /// The exit status.
     pub status: u8,
     pub printed: &'a [u8],
@@ -89,7 +59,9 @@ pub fn expect(
     rt: &(impl Abort + AllocGlobal + Threads + Wait + Clock + Sync),
     case: &Case<'_>,
 ) -> Result<(), Fail> {
-    let (status, printed, told) = called(rt, case.arguments, case.input)?;
+    let mut input = Vec::from_slice(rt.alloc(), case.deck)?;
+    input.extend_from_slice(case.rest)?;
+    let (status, printed, told) = called(rt, case.arguments, &mut input.as_slice())?;
     assert_eq!(rt;
         (status, printed.as_slice(), told.as_slice()),
         (case.status, case.printed, case.told),

@@ -62,7 +62,7 @@ impl Snapshot {
         ensures value { result.now ≡ self.now.state }
         ensures replay { replay (boot self.now.boot_memory) self.now.log ≡ Some result.now }
 
-        // If the fault is set, the log is a beginning of the program's run since the last exchange, and includes the
+        // If the fault is set, the log since the last exchange is a beginning of the program's run that includes the
         // instruction that sets the fault.
         ensures fault { result.now.fault ≡ true → IsFaultedRun self.now.log self.now.boot_memory result.now }
     {

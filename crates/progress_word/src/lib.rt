@@ -8,7 +8,7 @@
 //! Callers rely on three items. `Word::record` adds a step for a caller to the knowledge of the machine's pass.
 //! `Word::compare` shows a caller the log so far. A caller keeps its knowledge in a `Seen`. `rule` has the steps that
 //! the word's rule allows. Nothing here takes the machine's lock: the holder of the machine's pass holds that lock. Its
-//! tests are in `crates/thread_tests/src/lock_tests.rt`. Begin with `Word` in `word`.
+//! tests are in `crates/lock_tests/src/lock_tests.rt`. Begin with `Word` in `word`.
 #![tactic(auto)]
 
 mod rule;

@@ -19,7 +19,8 @@ is_over s log budget = is_some s.halt || (s.fault || nat_le budget (issued log))
 
 -- The log leads from boot with this memory to this state. It begins with the exchange for the first package, fulfils
 -- the counted and the free requests, and has no more instructions than the budget. The run is over there. If the state
--- has the fault, the log is a beginning of the program's run that includes the faulting instruction.
+-- has the fault, the log since the last exchange is a beginning of the program's run that includes the faulting
+-- instruction.
 pub record IsRun (memory : List ℕ) (start : ℕ) (after : List (ℕ × ℕ)) (free : List ℕ) (budget : ℕ)
     (log : List LogStep) (s : State) : Type 0 where
   pub begins : (more : List LogStep) × (log ≡ Exchanged start ∷ more)

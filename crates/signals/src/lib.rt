@@ -13,7 +13,7 @@
 //!   shows that (`Pace`), and then no thread looks for a while: each sleeps at once.
 //!
 //! Callers rely on `Waiting::until_raised` to return. `Wakeups` has the events that a thread reports. Its tests are in
-//! `crates/thread_tests/src/signal_tests.rt`. Begin with `Signals`.
+//! `crates/lock_tests/src/signal_tests.rt`. Begin with `Signals`.
 #![tactic(auto)]
 
 mod pace;

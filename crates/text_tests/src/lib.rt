@@ -1,5 +1,5 @@
-//! Tests of the crates that read and print texts: `device_text`, `deck`, `job_deck`, `sequential_job` and
-//! `operator_terms`, and of `sequential_run` and `are_fulfilled`, through their public items. This crate exports
+//! Tests of the crates that read and print texts: `device_text`, `refused_line`, `deck`, `job_deck`, `sequential_job`
+//! and `operator_terms`, and of `sequential_run` and `are_fulfilled`, through their public items. This crate exports
 //! nothing.
 //!
 //! `session_tests` answers schedules, and `printing_tests` has dumps, listings and logs. `led_tests` has a caller that
@@ -24,6 +24,8 @@ mod led_tests;
 mod operator_terms_tests;
 #[cfg(test)]
 mod printing_tests;
+#[cfg(test)]
+mod refused_line_tests;
 #[cfg(test)]
 mod sequential_run_tests;
 #[cfg(test)]

@@ -3,10 +3,9 @@
 ghost use Rattle.std.specs.Prelude.{◌≡◌, IfOk};
 ghost use Rattle.progress_word.specs.CallerKnowledge.{IsWordOf};
 
-use crate::fixtures::{Wanted, are, booted_over, is_empty, note, word, x};
-use crate::lock_tests::leave_all;
 use crate::thread_tests::{BOTH, Hold, NOTES, REGISTERS, Started, start};
 use instruction_table::{Refusal, Unit};
+use lock_tests::fixtures::{Wanted, are, booted_over, is_empty, leave_all, note, word, x};
 use machine::{Machine, Note, Seat, Snapshot};
 use machine_lock::{Ground, Naming, Seen, Shared};
 use std::alloc::Global;

@@ -2,11 +2,11 @@
 
 ghost use Rattle.std.specs.Prelude.{◌≡◌};
 
-use crate::fixtures::{Wanted, Words, are, booted, booted_over, is_empty, note, word, x};
-use crate::lock_tests::{Issued, leave_all};
 use crate::queue_tests::{Sending, Taking};
-use crate::signal_tests::opened;
 use instruction_table::{Digit, Halt, Refusal, Reg, Unit};
+use lock_tests::fixtures::{
+    Issued, Wanted, Words, are, booted, booted_over, is_empty, leave_all, note, opened, word, x,
+};
 use machine::{Event, Machine, Note, Seat};
 use machine_lock::{Ground, Naming, Seen, Shared};
 use registers::RegisterFile;
@@ -20,7 +20,9 @@ use std::thread;
 use std::thread::Threads;
 use std::time::Clock;
 use unit_queue::lane;
-use unit_workers::{Ended, Gate, Gates, Open, Orders, Tally, run_threads, serve, worker};
+use unit_workers::{
+    Ended, Gate, Gates, Open, Orders, Tally, run_threads, serve, storage_worker, worker,
+};
 
 fn orders(alloc: Global) -> Orders {
     Orders {
@@ -275,6 +277,8 @@ pub(crate) struct Hold {
     /// 1 once the held reservation continues because the other is stored, and not because it waited for a million
     /// turns.
     released: AtomicU64,
+    /// 1 once the held reservation has come to its gate.
+    waiting: AtomicU64,
 }
 
 impl Hold {
@@ -284,12 +288,14 @@ impl Hold {
             until,
             stored: AtomicU64::new(0),
             released: AtomicU64::new(0),
+            waiting: AtomicU64::new(0),
         }
     }
 
     /// Waits until the other reservation is stored, if this is the held one.
     pub(crate) fn before(&self, unit: Unit, number: u64) {
         if self.held == note(unit, number) {
+            self.waiting.store(1, Ordering::SeqCst);
             self.wait();
         }
     }
@@ -299,6 +305,11 @@ impl Hold {
         if self.until == note(unit, number) {
             self.stored.store(1, Ordering::SeqCst);
         }
+    }
+
+    /// Whether the held reservation has come to its gate. Its operands are then read, and its value isn't computed.
+    fn is_waiting(&self) -> bool {
+        self.waiting.load(Ordering::SeqCst) > 0
     }
 
     /// Whether the held reservation continued because the other one was stored.
@@ -637,12 +648,26 @@ impl Gate for Count {
 /// The answers of two issues.
 pub(crate) type Started = Result<[Option<Note>; 2], Refusal>;
 
+/// Asks for the exchange with the package at 40, and makes it.
+fn exchange<K: Naming, R: Wait>(
+    rt: &R,
+    shared: &Shared<K>,
+    seen: &mut Seen<K>,
+) -> Result<(), Refusal> {
+    shared.ask(rt, seen, 0o40)?;
+    shared.exchange(rt, seen)
+}
+
+/// Issues, with nothing said of the log.
+fn issue<K: Naming, R: Wait>(rt: &R, shared: &Shared<K>, seen: &mut Seen<K>) -> Issued {
+    shared.issue(rt, seen)
+}
+
 /// Makes the exchange with the package at 40, and issues twice.
 pub(crate) fn start<K: Naming, R: Wait>(rt: &R, shared: &Shared<K>, seen: &mut Seen<K>) -> Started {
-    shared.ask(rt, seen, 0o40)?;
-    shared.exchange(rt, seen)?;
-    let first = shared.issue(rt, seen)?;
-    let second = shared.issue(rt, seen)?;
+    exchange(rt, shared, seen)?;
+    let first = issue(rt, shared, seen)?;
+    let second = issue(rt, shared, seen)?;
     Ok([first, second])
 }
 
@@ -730,23 +755,8 @@ impl Gate for HeldBy<'_> {
     }
 }
 
-/// Issues, if Boolean's reservation is the oldest and has its operands but no value yet.
-fn issue_meanwhile<K: Naming, R: Wait>(
-    rt: &R,
-    shared: &Shared<K>,
-    seen: &mut Seen<K>,
-) -> Option<Issued> {
-    let mut machine = shared.lock(rt);
-    if machine.next_work() != Some(Event::Finish(Unit::Boolean)) {
-        return None;
-    }
-    let issued = machine.issue(seen);
-    shared.release(machine);
-    Some(issued)
-}
-
-/// Waits until Boolean's reservation has its operands but no value yet, issues then, and releases the held reservation.
-/// `None` if that moment never comes.
+/// Waits until the held reservation has its operands but no value yet, issues then, and releases it. `None` if that
+/// moment never comes.
 fn issue_before_finish<K: Naming, R: Wait>(
     rt: &R,
     shared: &Shared<K>,
@@ -754,7 +764,8 @@ fn issue_before_finish<K: Naming, R: Wait>(
     hold: &Hold,
 ) -> Option<Issued> {
     for _ in 0..1_000_000u32 {
-        if let Some(issued) = issue_meanwhile(rt, shared, &mut seen) {
+        if hold.is_waiting() {
+            let issued = shared.issue(rt, &mut seen);
             hold.stored(Unit::Shift, 2);
             return Some(issued);
         }
@@ -825,47 +836,39 @@ fn computes_beside<K: Naming + Send + Sync, R: Threads + Wait + Sync>(
     Ok((started, is_empty(holder), computed))
 }
 
-/// Whether the reservation was stored, whether the machine is then drained, and the answer to an acceptance from the
-/// hopper's place 0.
-type Referred = (bool, bool, Result<(), Refusal>);
+/// Whether the reservation was stored, whether the machine was drained then, and whether it was drained after the
+/// storage worker ended.
+type Referred = (bool, bool, bool);
 
-/// Issues twice, and serves the reservation of Increment1 with this number.
+/// Issues twice, serves the first reservation, which is of Increment1, and then does the work of memory.
 fn serve_increment<K: Naming, R: Wait>(
     rt: &R,
     alloc: Global,
     ground: Ground,
     machine: Machine,
-    number: u64,
 ) -> Result<Referred, Refusal>
     requires { ground ≡ K.table }
 {
     let (shared, increment1, mut seen) = opened::<K>(alloc, ground, machine)?;
     let started = start(rt, &shared, &mut seen);
-    let note = note(Unit::Increment1, number);
+    let note = note(Unit::Increment1, 1);
     let (increment1, is_stored) = serve(rt, &shared, note, increment1, &mut Open);
     increment1.leave();
     started?;
     let is_drained = shared.drained(rt);
-    Ok((is_stored, is_drained, shared.accept(rt, 0)))
+    shared.end(rt);
+    storage_worker(rt, &shared);
+    Ok((is_stored, is_drained, shared.drained(rt)))
 }
 
-/// The reference of SA1 B0+17 goes through memory at its store, because no earlier instruction is pending.
+/// A unit's worker leaves the reference of SA1 B0+17 to the storage worker, although no earlier instruction is pending.
+/// The storage worker accepts it and returns the load.
 #[test]
-fn takes_its_own_reference(rt: HostRuntime) -> Result<(), Fail> {
+fn leaves_its_reference(rt: HostRuntime) -> Result<(), Fail> {
     let machine = booted(rt.alloc(), &[(0o100, "51100000174600046000")])?;
     let ground = Ground::new(rt.alloc())?;
-    let referred = serve_increment::<Brand, _>(&rt, rt.alloc(), ground, machine, 1)?;
-    assert_eq!(rt; referred, (true, true, Err(Refusal::Nothing)));
-    Ok(())
-}
-
-/// The reference of SA3 B0+17 is left in the hopper for the storage worker, because BX1 X2 is pending before it.
-#[test]
-fn leaves_a_later_reference(rt: HostRuntime) -> Result<(), Fail> {
-    let machine = booted(rt.alloc(), &[(0o100, "10120513000001746000")])?;
-    let ground = Ground::new(rt.alloc())?;
-    let referred = serve_increment::<Brand, _>(&rt, rt.alloc(), ground, machine, 2)?;
-    assert_eq!(rt; referred, (true, false, Ok(())));
+    let referred = serve_increment::<Brand, _>(&rt, rt.alloc(), ground, machine)?;
+    assert_eq!(rt; referred, (true, false, true));
     Ok(())
 }
 

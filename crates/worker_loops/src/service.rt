@@ -4,9 +4,8 @@ ghost use Rattle.machine.specs.Tokens.{one_more};
 
 use crate::gate::Gate;
 use instruction_table::{Refusal, Unit};
-use machine::{Computed, Event, Loaded, Note, Outstanding, Seat};
-use machine_lock::{LockedMachine, Naming, Shared};
-use relocation::Access;
+use machine::{Computed, Loaded, Note, Seat};
+use machine_lock::{Naming, Shared};
 use signals::Waiting;
 use std::sync::Wait;
 
@@ -50,31 +49,9 @@ fn load<K: Naming, R: Wait>(
     unreachable!()
 }
 
-/// Takes through memory the reference that a unit has just made, if no earlier instruction was pending at its store.
-/// The reference is then the oldest, so only a busy bank can be in its way, and that bank is freed. If an earlier
-/// instruction was pending, the storage worker is woken instead.
-fn refer<K: Naming>(machine: &mut LockedMachine<K>, rest: Outstanding, was_oldest: bool) {
-    if !was_oldest {
-        machine.leave_to_memory();
-        return;
-    }
-    if let Outstanding::Entered(place, _, _) = &rest {
-        if let Err(Refusal::BankBusy(bank)) = machine.accept(*place) {
-            let _ = machine.bank_free(bank);
-            let _ = machine.accept(*place);
-        }
-    }
-    if matches!(rest, Outstanding::Entered(_, _, Access::Store(_))) {
-        return;
-    }
-    if let Some(Event::Return(channel)) = machine.next_work() {
-        let _ = machine.return_load(channel);
-    }
-}
-
-/// Gives the machine a computed value and stores the result, in one hold of the lock. A reference that the store makes
-/// is taken further by `refer` in the same hold. If the result is held, the reference isn't in turn or the hopper is
-/// full, the thread waits for another thread's event and tries again.
+/// Gives the machine a computed value and stores the result, in one hold of the lock. If the store makes a reference,
+/// the release of the lock wakes the storage worker. If the result is held, the reference isn't in turn or the hopper
+/// is full, the thread waits for another thread's event and tries again.
 ///
 /// # Errors
 /// The seat, unchanged, if the value or the store is refused as a stranger's.
@@ -98,11 +75,10 @@ fn store<K: Naming, R: Wait>(
     };
     for _ in rt.forever() {
         let count = signal.count();
-        let was_oldest = has_reference && machine.next_work() == Some(Event::Store(unit));
         match machine.store(token) {
-            Ok((seat, rest)) => {
-                if let Some(rest) = rest {
-                    refer(&mut machine, rest, was_oldest);
+            Ok(seat) => {
+                if has_reference {
+                    machine.leave_to_memory();
                 }
                 shared.release(machine);
                 signal.await_nothing();
@@ -146,11 +122,10 @@ pub(crate) fn serve_with<K: Naming, G: Gate, R: Wait>(
     }
 }
 
-/// Takes a reservation through its unit, from claim to store, and returns the seat. If no earlier instruction is
-/// pending at the store, this thread also takes the reservation's own reference through memory, in the same hold of the
-/// lock. `storage_worker` accepts all other references and returns all other loads. The `bool` says whether the result
-/// was stored. It is `false` only if the claim or a later step was refused as a stranger's, and the reservation is then
-/// given up. The gate is called before the computation, which takes no lock, and after the store.
+/// Takes a reservation through its unit, from claim to store, and returns the seat. Its reference to memory, if it makes
+/// one, is left to `storage_worker`. The `bool` says whether the result was stored. It is `false` only if the claim or a
+/// later step was refused as a stranger's, and the reservation is then given up. The gate is called before the
+/// computation, which takes no lock, and after the store.
 pub fn serve<K: Naming, G: Gate, R: Wait>(
     rt: &R,
     shared: &Shared<K>,

@@ -54,7 +54,7 @@ LEFT_OUT = re.compile(
 # The functions at which a way begins and ends.
 READ, LOOP, STEP, ISSUE, RELEASE, PUSH, WORKER, STORED, STORE, WRITTEN, FAULT = (
     "line::read_line", "reading::read_deck_from", "issuing::step", "LockedMachine::issue", "Shared::release",
-    "Lane::push", "unit_worker::worker", "OpenGate::stored", "Machine::store_with_rest", "storage::Storage::store",
+    "Lane::push", "unit_worker::worker", "OpenGate::stored", "processor::Machine::store", "storage::Storage::store",
     "Draft::apply",
 )
 # The crates that know of faults.

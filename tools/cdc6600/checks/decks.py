@@ -2,8 +2,8 @@
 status with the files beside it, which decks/README.md names. Each deck is run with and without `--sequential`. The log
 that a run prints is replayed, which has to print the same dump and to end with the same status. If the log of a run by
 threads depends on how these fall, it has to be one of those that it may have, and what is printed that of its replay.
-Then the rows of the pages refusals.md and requests.md are tried, and the timeline of each session and the picture
-docs/use/conflicts.svg are drawn anew and compared.
+Then the rows of the pages refusals.md and requests.md are tried, those of refusals at a terminal too. The timeline of
+each session and the picture docs/use/conflicts.svg are drawn anew and compared.
 
 It says nothing where all are as they should be, else the command and what differs. CDC6600 may name the program to try.
 
@@ -16,6 +16,8 @@ from concurrent.futures import ThreadPoolExecutor
 from cdc6600.shared.decks import PAGES, deck, decks, log_of, rows_of, session, sessions
 from cdc6600.shared.program import ROOT, Program, Ran, tell
 from cdc6600.shared.waiting import faults_found, run
+
+from .pseudo_terminal import told_at_terminal
 
 NOTHING = b""
 # The two ways in which a deck is run: by threads, and one instruction at a time.
@@ -100,11 +102,15 @@ def drawn(words, wanted):
     return faults_of(f"tools/timeline {' '.join(words)}", Ran(0, wanted, NOTHING), came)
 
 
-def refused(program, text, fault):
-    """Tries a row of refusals.md, a deck with its line and fault; its faults."""
+def refused(program, text, fault, position):
+    """Tries a row of refusals.md: a deck with its line and fault, and its position, which is told at a terminal alone;
+    its faults."""
     shown = text.replace("\\n", "\n").replace("\\r", "\r").encode()
     told = f"cdc6600: E20 line {fault}\n".encode()
-    return Tried(program, f"the deck {text}", shown).compare(["run"], Ran(1, NOTHING, told))
+    tried, at_terminal = Tried(program, f"the deck {text}", shown), told_at_terminal([program.path, "run"], shown)
+    wanted = told + (f"cdc6600: column {position}\n".encode() if position else NOTHING)
+    faults = [] if at_terminal == wanted else [f"{tried.command(['run'])} tells {at_terminal} at a terminal"]
+    return faults + tried.compare(["run"], Ran(1, NOTHING, told))
 
 
 def requested(program, lines, budget, status, log):

@@ -109,11 +109,6 @@ class Room:
         return Ran(ran.returncode, ran.stdout, ran.stderr)
 
 
-def without_column(told):
-    """A fault line of the program as the library tells it, which names no column."""
-    return re.sub(rb", column .*", b"", told)
-
-
 def library(file):
     """The library, by the class of the example in Python, whose other class kept_machine gets."""
     spec = importlib.util.spec_from_file_location("cdc6600", EXAMPLE)
@@ -142,12 +137,12 @@ def budget_of(it):
 def faults_of_deck(room, functions, it):
     """Lists, runs and replays a deck, by the functions and by the example in C; the faults."""
     if it.dump is None:
-        refused = Ran(it.status, NOTHING, without_column(it.told))
+        refused = Ran(it.status, NOTHING, it.told)
         faults = differing(f"list {it}", refused, called(functions.list, it.text))
         faults += differing(f"run {it}", refused, called(functions.run, it.text))
         return faults + differing(f"out/run {it}", refused, room.ran("run", it.file, "none"))
     log, budget = log_of(it.dump), budget_of(it)
-    wanted = Ran(it.status, it.dump, without_column(it.told))
+    wanted = Ran(it.status, it.dump, it.told)
     faults = differing(f"run {it}", wanted, called(functions.run, it.text, *budget))
     if not budget:
         faults += differing(f"out/run {it}", wanted, room.ran("run", it.file))
@@ -168,7 +163,7 @@ def faults_of_session(room, functions, it):
 def faults_of_refusal(functions, text, fault):
     """A row of refusals.md, a deck with its line and fault; the faults."""
     shown = text.replace("\\n", "\n").replace("\\r", "\r").encode()
-    wanted = Ran(1, NOTHING, without_column(f"cdc6600: E20 line {fault}\n".encode()))
+    wanted = Ran(1, NOTHING, f"cdc6600: E20 line {fault}\n".encode())
     return differing(f"the deck {text}", wanted, called(functions.list, shown))
 
 
@@ -345,8 +340,8 @@ def works(room, functions):
     for it in sessions():
         yield lambda it=it: faults_of_session(room, functions, it)
         yield lambda it=it: faults_of_memory(room, it)
-    for row in rows_of(PAGES / "refusals.md"):
-        yield lambda row=row: faults_of_refusal(functions, *row)
+    for text, fault, _ in rows_of(PAGES / "refusals.md"):
+        yield lambda text=text, fault=fault: faults_of_refusal(functions, text, fault)
     yield lambda: faults_of_arguments(functions)
     yield lambda: faults_of_capacities(functions)
     yield lambda: faults_of_version(functions)

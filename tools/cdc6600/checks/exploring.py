@@ -53,7 +53,7 @@ COUNTED = {
 }
 INPUTS = (
     (("decks/nosuch",), 1, "tools/explore: decks/nosuch: No such file or directory"),
-    (("decks/run/refused.deck",), 1, "tools/explore: decks/run/refused.deck: E20 line 4: range, column 1: 'word'"),
+    (("decks/run/refused.deck",), 1, "tools/explore: decks/run/refused.deck: E20 line 4: range"),
     (("--times", "decks", "decks/two-adds.deck"), 1, "tools/explore: decks: Is a directory"),
     (("--states", "59", "decks/two-adds.deck"), 1,
      "tools/explore: decks/two-adds.deck: it has more than 59 states; --states N allows more"),

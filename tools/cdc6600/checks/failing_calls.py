@@ -13,21 +13,24 @@ from cdc6600.shared.waiting import Missing, run
 SOURCE = Path(__file__).resolve().with_suffix(".c")
 
 
+def built(source, folder):
+    """The library that a source in C makes, which is built in a folder. Ends this process with a line that says why it
+    can't be built."""
+    library = Path(folder) / f"{source.stem}.so"
+    words = [os.environ.get("CC", "cc"), "-O1", "-shared", "-fPIC", "-o", library, source, "-ldl"]
+    try:
+        run(words).check_returncode()
+    except (OSError, subprocess.CalledProcessError, Missing) as fault:
+        sys.exit(f"{source.name}: it could not be built: {fault}")
+    return library
+
+
 class Failing:
     """The program, with the library of failing calls, which is built in a folder."""
 
     def __init__(self, folder):
         self.program, self.folder, self.runs = Program(), Path(folder), count()
-        self.library = self.folder / "failing_calls.so"
-        self.build(os.environ.get("CC", "cc"))
-
-    def build(self, compiler):
-        """Builds the library, or ends this process with a line that says why it can't."""
-        words = [compiler, "-O1", "-shared", "-fPIC", "-o", self.library, SOURCE, "-ldl"]
-        try:
-            run(words).check_returncode()
-        except (OSError, subprocess.CalledProcessError, Missing) as fault:
-            sys.exit(f"{SOURCE.name}: it could not be built: {fault}")
+        self.library = built(SOURCE, folder)
 
     def run(self, words, text, call="", at=0, later=False, short=False):
         """How a run ended, and whether a call failed."""

@@ -31,6 +31,7 @@ from concurrent.futures import ThreadPoolExecutor
 from itertools import product
 
 from cdc6600.shared.decks import deck, log_of, session
+from cdc6600.shared.program import followed
 
 from .failing_calls import Failing
 
@@ -209,6 +210,8 @@ def cases(program):
         yield Session(program, session(name).text)
     yield Case(program, ["replay", "E40 I1 R111 R110 W110=5"], session("peripheral").text)
     yield Case(program, ["replay", "E40 I1 R400"], session("peripheral").text)
+    yield Case(program, ["replay", "--log-follows"], followed(deck("two-adds").text, "E40 I2 R100 I4"))
+    yield Case(program, ["replay", "--log-follows"], followed(deck("two-adds").text, "E40 I2 I4"))
     yield Case(program, ["list"], session("mid-word-exchange").text)
     yield Case(program, ["replay", "E40 I3 E60 I1"], session("mid-word-exchange").text)
     yield Run(program, ["run"], session("mid-word-exchange").text)

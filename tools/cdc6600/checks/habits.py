@@ -48,6 +48,7 @@ COMPLETED = (
     (("run", "--budget", "--"), []),
     (("run", "<", "-"), []),
     (("replay", ""), []),
+    (("replay", "--l"), ["--log-follows"]),
 )
 # What the tools are called with, the installed ones and those of this repository.
 CALLED = (

@@ -5,8 +5,8 @@ each word is shown, in 64 ranges. Word a of it has the value a, but for the fiel
 has B1 to B7 of 1 to 7 and X0 to X7 of 8 to 15, and its program stops by its first instruction. A session makes
 1,000,000 requests, each with its exchange, which is as many as there may be; one more is refused as `E3 budget`.
 Another makes 1,000,000 peripheral accesses, as many as there may be, and `replay` goes through as many as an argument
-has room for, and through the largest logs from files. Each command works with a stack of 96 KiB. A deck and the session
-after it have 10,000,000 lines at most; `tools/check mutations` lists decks of so many.
+has room for, and through the largest logs after a deck. Each command works with a stack of 96 KiB. A deck and the
+session after it have 10,000,000 lines at most; `tools/check mutations` lists decks of so many.
 
 At a difference it says which, and ends with status 1. It prints nothing where there is none. CDC6600 may name the
 program to try; else `./cdc6600` builds it.
@@ -17,12 +17,10 @@ Run it after a change of limits, or of what reads, keeps or prints them.
 import functools
 import subprocess
 import sys
-import tempfile
-from pathlib import Path
 
 from cdc6600.limits import MOST_ACCESSES, MOST_LINES, MOST_REQUESTS, MOST_SHOWS, MOST_WORDS
 from cdc6600.shared.decks import deck as stored
-from cdc6600.shared.program import Program
+from cdc6600.shared.program import Program, followed
 
 # The largest sessions take longer than other input.
 MINUTES = 30
@@ -131,25 +129,19 @@ def replayed_accesses():
     compare("their session", (status, [], told), (0, [], b""))
 
 
-def logs_of_files():
+def following_logs():
     """The largest logs, which no argument can hold: as many exchanges and as many accesses as there may be. The replay
-    ends with the same log, from a file and from standard input; a log with one entry more is refused."""
+    ends with the same log; a log with one entry more is refused."""
     text, kinds = b"core 32\nstart 0\nend\n", {"exchanges": ("E0", MOST_REQUESTS), "accesses": ("W10=7", MOST_ACCESSES)}
-    with tempfile.TemporaryDirectory() as room:
-        log, deck_file = Path(room) / "log", Path(room) / "deck"
-        deck_file.write_bytes(text)
-        for name, (entry, most) in kinds.items():
-            entries = [entry] * most
-            log.write_text(" ".join(entries) + "\n", encoding="ascii")
-            status, dump, told = run_text(["replay", "--log", log], text)
-            last = b"LOG " + log.read_bytes()
-            compare(f"a log of {name}", (status, [dump[-len(last):]], told), (5 if entry == "E0" else 0, [last], b""))
-            again = run_text(["replay", "--log", "-", "--deck", deck_file], log.read_bytes())
-            compare(f"a log of {name} on standard input", (again[0], [again[1]], again[2]), (status, [dump], b""))
-            log.write_text(" ".join([*entries, entry]), encoding="ascii")
-            refused = run_text(["replay", "--log", log], text)
-            came, wanted = (refused[0], [refused[1]], refused[2]), (2, [b""], b"cdc6600: bad log\n")
-            compare(f"one of the {name} more", came, wanted)
+    words = ["replay", "--log-follows"]
+    for name, (entry, most) in kinds.items():
+        entries = [entry] * most
+        status, dump, told = run_text(words, followed(text, " ".join(entries)))
+        last = f"LOG {' '.join(entries)}\n".encode()
+        compare(f"a log of {name}", (status, [dump[-len(last):]], told), (5 if entry == "E0" else 0, [last], b""))
+        refused = run_text(words, followed(text, " ".join([*entries, entry])))
+        came, wanted = (refused[0], [refused[1]], refused[2]), (2, [b""], b"cdc6600: bad log\n")
+        compare(f"one of the {name} more", came, wanted)
 
 
 def small_stack():
@@ -200,7 +192,7 @@ def main():
     compare("their end", (0, lines[-MOST_WORDS - 1 :], ""), (0, dump("", "", WORDS, log)[-MOST_WORDS - 1 :], ""))
     most_accesses()
     replayed_accesses()
-    logs_of_files()
+    following_logs()
     small_stack()
     sessions_of_most_lines()
     return 0

@@ -6,10 +6,10 @@
 The reader here follows docs/use/formats.md, and takes the codes and texts of instructions from the tables of
 docs/use/instructions.md, by shared/instructions.py; it shares nothing with the program. A case is a deck or session of
 decks/, or a deck that is drawn, with faults put in. A refused deck has to give status 1, its one fault line and no
-output, and its line has to have, at the column that the fault line names, what that names; an accepted one status 0 and
-its listing, and the deck of `at` and `word` lines that this listing makes has to give the same listing. Before the
-cases come each beginning of all-rows.deck, as it is and with an `end` line after it, and decks with as many lines as
-there may be.
+output. At a terminal a second line follows, and the refused line has to have, at the column that this line names, what
+it names. An accepted deck has to give status 0 and its listing, and the deck of `at` and `word` lines that this listing
+makes has to give the same listing. Before the cases come each beginning of all-rows.deck, as it is and with an `end`
+line after it, and decks with as many lines as there may be.
 
 At the first difference it prints the seed, the case, the deck, and what was wanted and what came, and ends with status
 1. It prints nothing where there is none. CDC6600 may name the program to try; else `./cdc6600` builds it.
@@ -27,6 +27,8 @@ from cdc6600.limits import LEAST_WORDS, MOST_ASKS, MOST_INSTRUCTIONS, MOST_LINES
 from cdc6600.shared.decks import deck, decks, sessions
 from cdc6600.shared.instructions import ROWS, instruction, items_of
 from cdc6600.shared.program import Program
+
+from .pseudo_terminal import told_at_terminal
 
 # The longest decks take longer than others.
 MINUTES = 30
@@ -356,7 +358,7 @@ def mutated(seed, case, stored):
 
 
 def is_at(line, column, text):
-    """Whether a line has what its fault line names at a column, counted from 1."""
+    """Whether a line has what is named at a column, counted from 1."""
     before, rest = line[:column - 1], line[column - 1:]
     named = re.fullmatch(r"'(.*)'(\.\.)?( is floating point, which isn't implemented)?", text)
     if named:
@@ -370,21 +372,30 @@ def is_at(line, column, text):
     }.get(text, False)
 
 
-def without_column(told, deck):
-    """A fault line without its column, if the refused line has there what the fault line names."""
-    found = re.fullmatch(rb"(cdc6600: E20 line (\d+): ([a-z ]+))(?:, column (\d+): (.*))?\n", told)
-    if not found or found[3] in (b"lines", b"no end"):
+def without_position(told, deck):
+    """The fault line of what is told at a terminal, if the refused line has what is named at its position."""
+    found = re.fullmatch(rb"(cdc6600: E20 line (\d+): ([a-z ]+)\n)(?:cdc6600: column (\d+): (.*)\n)?", told)
+    if not found:
         return told
+    if found[3] in (b"lines", b"no end"):
+        return told if found[4] else found[1]
     line = deck.split(b"\n")[int(found[2]) - 1]
     if found[4] and is_at(line, int(found[4]), found[5].decode()):
-        return found[1] + b"\n"
+        return found[1]
     return told + b"which is not what the line has\n"
+
+
+def listed(program, deck):
+    """What comes of the list of a deck. If the deck is refused, what is told at a terminal has to be the same but for
+    the position of the fault."""
+    status, output, told = program.run(["list"], deck, MINUTES)
+    at_terminal = without_position(told_at_terminal([program.path, "list"], deck), deck) if told else told
+    return status, output, told if at_terminal == told else at_terminal
 
 
 def compare(program, name, deck, wanted):
     """Lists a deck, and ends this script where that isn't as it should be."""
-    status, output, told = program.run(["list"], deck, MINUTES)
-    came = status, output, without_column(told, deck)
+    came = listed(program, deck)
     if came == wanted:
         return
     print(f"tools/check mutations: {name}", "deck:", sep="\n")

@@ -254,7 +254,7 @@ def refused(program, folder):
     file, small = str(DECK.file), {"columns": 70, "lines": 20}
     trials = [
         (["/nowhere"], {}, {}, "/nowhere: No such file or directory"),
-        ([str(deck("refused").file)], {}, {}, r".*refused\.deck: E20 line 4: range, column 1: 'word'"),
+        ([str(deck("refused").file)], {}, {}, r".*refused\.deck: E20 line 4: range"),
         ([file], {}, small, "the terminal: 70 columns and 20 lines; it takes 80 and 24, or --plain"),
         ([file], {}, {"kind": "nothing-known"}, "the terminal: TERM is nothing-known: .*"),
         ([file], {"CDC6600": "/nowhere"}, {}, "/nowhere: No such file or directory"),

@@ -40,7 +40,7 @@ UNTRACED = ("P", "PARCEL", "HELD")
 INPUTS = (
     (("decks/nosuch",), "decks/nosuch: No such file or directory"),
     (("decks",), "decks: Is a directory"),
-    ((FAULTY,), f"{FAULTY}: E20 line 4: range, column 1: 'word'"),
+    ((FAULTY,), f"{FAULTY}: E20 line 4: range"),
     (("-",), "standard input: E20 line 1: no end"),
     ((JOBS, "I0"), "the log I0: bad log"),
     ((JOBS, "E777"), "the log E777: E19 package range"),

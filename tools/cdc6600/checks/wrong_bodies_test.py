@@ -16,6 +16,7 @@ from pathlib import Path
 from cdc6600.crates.source import Sources
 from cdc6600.crates.table import Table
 from cdc6600.shared.program import ROOT
+from cdc6600.wrong_bodies.assumed import as_proved, assumed
 from cdc6600.wrong_bodies.copies import beside, can_stand_beside, copied, copy_of
 from cdc6600.wrong_bodies.groups import clash, grouped, reached
 from cdc6600.wrong_bodies.opening import Opening, opened
@@ -23,7 +24,7 @@ from cdc6600.wrong_bodies.second import after_one
 from cdc6600.wrong_bodies.edits import merged, read_bodies
 from cdc6600.wrong_bodies.libraries import stamps
 from cdc6600.wrong_bodies.verdicts import CANT_TELL, REFUSED as IS_REFUSED, is_of, outcome_of
-from cdc6600.wrong_bodies.written import without
+from cdc6600.wrong_bodies.written import resting, without
 
 from .unit_tests import tested
 
@@ -338,6 +339,25 @@ class Reading(unittest.TestCase):
         self.assertEqual(without(text, {"step"}), without(text, {"returns"}))
         self.assertEqual(without(text, set()), text)
 
+    def test_contracts_of_right_bodies_are_assumed(self):
+        texts = assumed(self.source, self.crate, self.body("adds_two").touched)
+        proof = texts["proofs/two_more/Proof.antt"].split("\n")
+        self.assertEqual(proof[0], "use Rattle.tiny.proofs.two_more.Statement.{statement}")
+        self.assertEqual(proof[2:], ["pub two_more_spec : {M : Type 1} → statement M", "two_more_spec = ?", ""])
+        self.assertIsNone(texts["proofs/two_more/Answers.antt"])
+        self.assertIn("proofs/Few/with_another/Proof.antt", texts)
+        self.assertFalse(any("plus_one" in path or "weight" in path for path in texts))
+
+    def test_an_assumed_contract_counts_as_proved(self):
+        hole = "depends on a hole in `Rattle.tiny.proofs.{0}.Proof.{0}_spec`"
+        left = "fn tiny::plus_two: no proof: `search` did not prove `returns`; it calls `tiny::{}`, which is not proved"
+        said = [f"fn tiny::plus_one: {hole.format('plus_one')}", left.format("plus_one"), left.format("least")]
+        self.assertEqual(
+            as_proved("\n".join(said)).split("\n"),
+            ["fn tiny::plus_one: proved", left.partition("; it calls")[0], left.format("least")],
+        )
+        self.assertEqual(as_proved("fn tiny::least: no holes"), "fn tiny::least: proved")
+
     def test_group_has_each_body(self):
         text = merged(self.source, [self.body("adds_two"), self.body("larger_of_two")])["src/lib.rt"]
         wanted = LIBRARY.replace("    x + 1\n", "    x + 2\n").replace("{ a } else { b }", "{ b } else { a }")
@@ -392,6 +412,15 @@ class Reading(unittest.TestCase):
         self.assertFalse(self.says(1, file + "`step`: record `R` has no field `one`", rest, *end).refused)
         self.assertFalse(self.says(1, rest, *end).refused)
 
+    def test_what_rests_on_a_step_is_found(self):
+        text = "step : ℕ\nstep = 0\n\nother : ℕ\nother = step\n\npub returns : goal.returns\nreturns c = other\n"
+        self.assertEqual(resting(text, "step"), ["other", "returns"])
+        body = self.body("adds_one_once")
+        said = "./proofs/two_more/Answers.antt:1:2: error: `step`: the two types differ\nfn tiny::two_more: not proved"
+        texts = {**self.source.texts, "proofs/two_more/Answers.antt": text}
+        found = outcome_of(body.touched, f"{said}\nonly=1 holes=3", 1, "tiny", texts)
+        self.assertEqual(found.verdict.words, "`returns` of two_more")
+
     def test_silence_is_told(self):
         left = "fn tiny::plus_one: no proof: `search` did not prove `returns`"
         self.assertFalse(self.says(1).refused)
@@ -444,6 +473,17 @@ class Checking(unittest.TestCase):
             file.write_text(SPEC + "\n-- Read by the check.\n", encoding="utf-8")
             for words in ([], ["--anew"]):
                 self.assertTrue(any(" 1 groups" in line for line in runs(root, *words)[1]))
+
+    def test_bodies_of_the_night_are_left_out_while_nothing_changes(self):
+        with tempfile.TemporaryDirectory() as root:
+            write_workspace(root, {"adds_two": REFUSED["adds_two"]})
+            write_workspace(root, {"adds_three_in_all": REFUSED["adds_three_in_all"]}, "nightly-bodies")
+            for words, count in (([], 1), (["--all"], 2), ([], 1), (["tiny"], 2)):
+                self.assertEqual(runs(root, *words)[1][-1], f"{count} wrong bodies, 0 not refused, 0 can't tell")
+            file = Path(root, "crates/tiny/specs/After.antt")
+            file.write_text(SPEC + "\n-- Read by the check.\n", encoding="utf-8")
+            for count in (2, 1):
+                self.assertEqual(runs(root)[1][-1], f"{count} wrong bodies, 0 not refused, 0 can't tell")
 
     def test_unlisted_crate_is_told(self):
         with tempfile.TemporaryDirectory() as root:

@@ -51,6 +51,7 @@ PAGES = (
     "README.md",
     "decks/exercises/*.*",
     "decks/source/*.*",
+    "docs/*.md",
     "docs/*/*.md",
     "docs/use/*.svg",
     "docs/use/*.png",

@@ -1,13 +1,17 @@
 """Tries the wrong bodies of the crates: the prover has to refuse each at a goal of its own function's contract.
 
-    tools/wrong-bodies [CRATE..]        those of every crate, or of these; what was refused before, and is the same,
-                                        is kept
-    tools/wrong-bodies --anew           all of them, whatever was kept
+    tools/wrong-bodies                  those that the gate tries; what was refused before, and is the same, is kept
+    tools/wrong-bodies CRATE..          all of these crates
+    tools/wrong-bodies --all            all of every crate
+    tools/wrong-bodies --anew           whatever was kept
     tools/wrong-bodies --after-rt-ci    over the libraries that `rt ci` has just left in this checkout
 
 A wrong body is an edit in crates/NAME/wrong-bodies/, or one of the promised ones in crates/NAME/must-fail/, which
-`rt ci` tries too. docs/work/CHANGING.md says how one is written. Bodies are tried in groups:
-tools/cdc6600/wrong_bodies/copies.py, and for the rest groups.py, say why one check can judge many.
+`rt ci` tries too, or one in crates/NAME/nightly-bodies/. The gate tries those of the night only if their crate has
+changed since its bodies were last tried on this machine. docs/work/CHANGING.md says how one is written.
+
+Bodies are tried in groups: tools/cdc6600/wrong_bodies/copies.py, and for the rest groups.py, say why one check can
+judge many.
 tools/cdc6600/wrong_bodies/verdicts.py says what a check refuses, and second.py when that counts.
 
 It prints a line for each body with its verdict and the goal, a line for each crate, and last the number of bodies, of
@@ -33,7 +37,8 @@ from cdc6600.wrong_bodies.verdicts import CANT_TELL, NOT_REFUSED
 def arguments():
     parser = argparse.ArgumentParser(description=__doc__, formatter_class=argparse.RawDescriptionHelpFormatter)
     parser.add_argument("crates", nargs="*", metavar="CRATE", help="a crate of crates.txt; none: all of them")
-    parser.add_argument("--anew", action="store_true", help="try all, whatever an earlier run kept")
+    parser.add_argument("--all", action="store_true", help="those of the night too")
+    parser.add_argument("--anew", action="store_true", help="try them whatever an earlier run kept")
     parser.add_argument("--once", action="store_true", help="check each body once, which takes a third of the time")
     parser.add_argument("--after-rt-ci", action="store_true",
                         help="`rt ci` has just ended well here: take over its libraries")
@@ -99,13 +104,15 @@ def work():
     for fault in faults:
         print(f"NOT REFUSED {fault}")
     identity = kit()
-    crates = [read_crate(table, name, identity, given.anew, given.once) for name in names]
+    crates = [read_crate(table, name, identity, given) for name in names]
     tries = try_all(table, crates, given)
     for crate in crates:
         total = len(crate.bodies) + len(crate.faults)
         seconds = f"{crate.seconds:.0f} seconds of processor time"
         print(f"{crate.name}: {total} bodies, {len(crate.groups)} groups, {seconds}")
+        crate.settle()
     print(f"libraries: {len(tries.libraries)}, {tries.library_seconds:.0f} seconds of processor time")
+    print(f"left to --all: {sum(crate.left_out for crate in crates)}")
     bad = len(faults) + sum(len(not_refused(crate)) for crate in crates)
     total = sum(len(crate.bodies) + len(crate.faults) for crate in crates)
     unsure = sum(len(cant_tell(crate)) for crate in crates)

@@ -5,9 +5,10 @@ import selectors
 import shlex
 import signal
 import subprocess
+import tempfile
 import threading
 
-from cdc6600.shared.program import words_of_log
+from cdc6600.shared.program import words_and_input
 from cdc6600.shared.waiting import Clock
 
 from .faults import IS_OVER, LEAVING, BadInput, Failure, Slow
@@ -85,9 +86,9 @@ def end_group(process):
 
 
 class Emulator:
-    """A command that reads a deck on standard input, goes through the log that is its last argument, or in the file
-    that its last two arguments `--log FILE` name, and prints the dump. A call of it may take so many seconds, and so
-    many more for each thousand steps of the log."""
+    """A command that reads a deck on standard input, goes through the log that is its last argument or, if that is
+    `--log-follows`, the line after the deck, and prints the dump. A call of it may take so many seconds, and so many
+    more for each thousand steps of the log."""
 
     def __init__(self, command, seconds, slope):
         self.command, self.seconds, self.slope = command, seconds, slope
@@ -99,12 +100,15 @@ class Emulator:
         if not self.words:
             raise BadInput("the command has no word")
 
-    def start(self, words, deck):
-        """Starts it on the file of a deck, with these last arguments. It begins a session, and so a group of processes,
-        by which all that it starts can be ended."""
+    def start(self, log, deck):
+        """Starts it on the file of a deck, with a log. It begins a session, and so a group of processes, by which all
+        that it starts can be ended."""
         piped = {"stdout": subprocess.PIPE, "stderr": subprocess.PIPE}
         try:
-            with open(deck, "rb") as given:
+            words, text = words_and_input(log, deck.read_bytes())
+            with tempfile.TemporaryFile() as given:
+                given.write(text)
+                given.seek(0)
                 return subprocess.Popen([*self.words, *words], stdin=given, **piped, start_new_session=True)
         except OSError as fault:
             raise BadInput(f"the command {self.command}: {fault.strerror}") from None
@@ -119,7 +123,7 @@ class Emulator:
         Raises Slow where it doesn't end in time, and Failure where it dies or prints nothing."""
         with self.counting:
             self.calls += 1
-        with LEAVING.later(), words_of_log(log) as words, self.start(words, deck) as process:
+        with LEAVING.later(), self.start(log, deck) as process:
             try:
                 reading = Reading(process, self.limit(steps), most)
                 reading.to_end()

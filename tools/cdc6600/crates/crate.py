@@ -13,8 +13,10 @@ from .source import items_of
 from .table import Table
 
 DECLARED = re.compile(r'^pub (?:const |extern "C" )?(?:fn|struct|enum|trait) (\w+)', re.MULTILINE)
-# The folders of a crate that have edits, those that are promised by name first.
-EDITS = ("must-fail", "wrong-bodies")
+# The folders of a crate that have edits: those that are promised by name, those that the gate tries, and those that it
+# tries only if it is asked for all or if their crate has changed.
+NIGHTLY = "nightly-bodies"
+EDITS = ("must-fail", "wrong-bodies", NIGHTLY)
 
 
 class Source:

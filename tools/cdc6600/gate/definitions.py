@@ -9,6 +9,7 @@ Run it after a change of names, definitions or edits.
 
 import re
 
+from cdc6600.crates.crate import EDITS
 from cdc6600.rules.files import Files, placed
 from cdc6600.rules.labels import LABELS
 from cdc6600.rules.mentions import Rules, is_tried
@@ -71,7 +72,7 @@ def check_item(where, column, item):
         return found if column == "Contract" else []
     elif column == "Proof":
         is_there(where, placed(name, "proofs"))
-    elif placed(name, "must-fail") not in FILES.paths:
+    elif not any(placed(name, folder) in FILES.paths for folder in EDITS):
         is_there(where, placed(name, "wrong-bodies"))
     return []
 

@@ -7,7 +7,7 @@ from pathlib import Path
 
 from cdc6600.shared.program import ROOT
 
-PAGE, TEST = "docs/work/threads.md", "crates/thread_tests/src/example_tests.rt"
+PAGE, TEST = "docs/work/threads.md", "crates/lock_tests/src/example_tests.rt"
 FENCE, RUST = "```", "```rust"
 
 

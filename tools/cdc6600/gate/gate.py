@@ -1,7 +1,9 @@
 """The gate. Its last line is a count, `N passed, M failed`, and the lines before it say what each part took.
 
     .ci/run           everything, but what earlier runs found of the very same text is kept, crate by crate
-    .ci/run --anew    everything, whatever was kept
+    .ci/run --all     also the wrong bodies of the night in crates that haven't changed. A run without a failure is
+                      noted in docs/proof/all-wrong-bodies.txt, and each run prints how long ago that was
+    .ci/run --anew    whatever was kept; `--all --anew` too
     .ci/run quick     a look while something is changed: the small checks, and what changed since the last look is
                       proved. It tries no wrong body and runs no test
 
@@ -11,9 +13,10 @@ The parts, in their order:
 - `rt ci`: every proof from nothing, every test, the wrong bodies of `must-fail`, and the program's stored run. It keeps
   beside the kit what it proved and tried, by the sums of all that it read, and so proves and tries again only what
   changed, and what stands above that; tests and the program are run each time;
-- wrong bodies: those of `must-fail` again and all others, in groups, over the libraries that `rt ci` left
-  (tools/wrong-bodies --once, which keeps what it tried in the user's cache folder). A body with the verdict `can't
-  tell` has neither passed nor failed, and the number of these is printed at the end;
+- wrong bodies: those of `must-fail` again, those of `wrong-bodies`, and of a crate that has changed also those of
+  `nightly-bodies`, in groups, over the libraries that `rt ci` left (tools/wrong-bodies --once, which keeps what it
+  tried in the user's cache folder). A body with the verdict `can't tell` has neither passed nor failed, and the number
+  of these is printed at the end;
 - decks (tools/cdc6600/checks): what the program prints for them, for the commands of the pages, for worked schedules,
   for the largest decks, for those that are cut and bent, and where calls fail, when requests of both kinds are made,
   what a run with and without threads prints for drawn decks, and which events take memory; that a run ends soon beside
@@ -33,6 +36,7 @@ import subprocess
 import sys
 import time
 from concurrent.futures import ThreadPoolExecutor
+from datetime import date
 from pathlib import Path
 
 from cdc6600.checks.debian import missing
@@ -41,6 +45,8 @@ from cdc6600.shared.program import ROOT
 from .parts import BODIES, BUILDING, DECKS, SMALL, called, command
 
 RUNNER = "tools/wrong-bodies"
+# When all wrong bodies were last tried.
+ALL = "docs/proof/all-wrong-bodies.txt"
 # What `rt ci` builds.
 PROGRAM = "crates/operator_main/out/operator_main"
 PROOFS = re.compile(r"(\d+) passed, (\d+) failed")
@@ -130,11 +136,31 @@ def proofs(is_anew):
     return passed, failed
 
 
-def bodies(gate, is_anew):
-    """The runner's own tests, and then all wrong bodies: how many were refused, and how many weren't."""
-    passed, failed = silent([BODIES])
-    tried, let_through, gate.unsure = counted([RUNNER, "--after-rt-ci", "--once", *["--anew"] * is_anew], TRIED)
+def bodies(gate, asked):
+    """The wrong bodies, and beside them the runner's own tests: how many were refused, and how many weren't."""
+    with ThreadPoolExecutor(1) as pool:
+        own = pool.submit(silent, [BODIES])
+        tried, let_through, gate.unsure = counted([RUNNER, "--after-rt-ci", "--once", *sorted(asked)], TRIED)
+        passed, failed = own.result()
+    if "--all" in asked and not failed + let_through:
+        note_all(f"{tried} wrong bodies, {let_through} not refused, {gate.unsure} can't tell")
+    print(age_of_all(), flush=True)
     return passed + max(tried - let_through - gate.unsure, 0), failed + let_through
+
+
+def note_all(found):
+    """Notes that all wrong bodies were tried, of which commit and what was found."""
+    commit = subprocess.check_output(["git", "describe", "--always", "--dirty"], text=True).strip()
+    Path(ALL).write_text(f"{date.today()} {commit}: {found}\n", encoding="utf-8")
+
+
+def age_of_all():
+    """How long ago all wrong bodies were last tried, and of which commit."""
+    try:
+        day, commit, *_ = Path(ALL).read_text(encoding="utf-8").replace(":", "").split()
+        return f"all wrong bodies were last tried {(date.today() - date.fromisoformat(day)).days} days ago, of {commit}"
+    except (OSError, ValueError):
+        return f"{ALL} doesn't say when all wrong bodies were last tried"
 
 
 def is_ready(name):
@@ -151,13 +177,13 @@ def changed():
     return (0, 1) if ended else (1, 0)
 
 
-def whole(gate, is_anew):
+def whole(gate, asked):
     """Every part, up to one in which something fails."""
     gate.part("small checks", small_checks)
     if not gate.failed:
-        gate.part("proofs and tests", lambda: proofs(is_anew))
+        gate.part("proofs and tests", lambda: proofs("--anew" in asked))
     if not gate.failed:
-        gate.part("wrong bodies", lambda: bodies(gate, is_anew))
+        gate.part("wrong bodies", lambda: bodies(gate, asked))
         gate.part("decks", lambda: silent((*DECKS, *BUILDING)))
 
 
@@ -172,9 +198,9 @@ def main():
     gate, words = Gate(), sys.argv[1:]
     if words == ["quick"]:
         quick(gate)
-    elif words in ([], ["--anew"]):
-        whole(gate, bool(words))
+    elif set(words) <= {"--all", "--anew"}:
+        whole(gate, set(words))
     else:
-        print("usage: .ci/run [quick | --anew]", file=sys.stderr)
+        print("usage: .ci/run [quick | [--all] [--anew]]", file=sys.stderr)
         return 2
     return gate.end()

@@ -200,15 +200,15 @@ def answered(name, answer):
 
 
 def fault_in(cell):
-    """The fault that a row of refusals.md names, without its line and its column."""
-    return cell.partition(": ")[2].split(",")[0]
+    """The fault that a row of refusals.md names, without its line."""
+    return cell.partition(": ")[2]
 
 
 def refused(fault_of_deck, number, is_past=lambda number, value: number > value):
     """A row of refusals.md with a number past the limit, and this fault."""
 
     def fault(value):
-        rows = [text for text, line in rows_of(PAGES / "refusals.md") if fault_in(line) == fault_of_deck]
+        rows = [text for text, line, _ in rows_of(PAGES / "refusals.md") if fault_in(line) == fault_of_deck]
         is_there = any(str(number) in re.findall(r"\d+", text) for text in rows)
         return None if is_there and is_past(number, value) else f"no deck of refusals.md has a number past {value}"
 
@@ -222,7 +222,7 @@ def too_full():
         lines = [line.removeprefix("code ") for line in text.split("\\n") if line.startswith("code ")]
         return max((sum(len(instruction(text).parcels) for text in line.split("; ")) for line in lines), default=0)
 
-    rows = [text for text, line in rows_of(PAGES / "refusals.md") if fault_in(line) == "full"]
+    rows = [text for text, line, _ in rows_of(PAGES / "refusals.md") if fault_in(line) == "full"]
     return counted("decks/pages/refusals.md", lambda: max(map(parcels, rows), default=0), "parcels for one word")
 
 
@@ -295,9 +295,8 @@ REGISTERS = nothing("an instruction has two results and three operands at most, 
 PARCELS = nothing("an instruction has one parcel or two, which is proved at each push")
 TOO_MANY_LINES = check("large", "MOST_LINES", "too_many")
 LONG_LINES = repeated("READ_OF_A_LINE", check("mutations", "{less}, {value}, {more}"))
-LARGEST_LOG = check("large", "logs_of_files", "[*entries, entry]")
+LARGEST_LOG = check("large", "following_logs", "[*entries, entry]")
 WAITS = asleep("endless", "the thread for requests at any time")
-LONG_ENTRY = test("text_tests/src/following_log_tests.rt", "E40 W777777=777777777777777777777 I1")
 BITS = nothing("it is a pattern of bits, and no limit")
 
 LIMITS = {
@@ -352,10 +351,10 @@ LIMITS = {
     ("deck/src/coding.rt", "ArrayVec<u16, "): check("mutations", "{less}, {value}, 256"),
     ("device_text/src/line.rt", "ArrayVec<u8, "): LONG_LINES,
     ("device_text/src/line.rt", "for _ in .."): LONG_LINES,
-    ("job_deck/src/following_log.rt", "ArrayVec<u8, "): LONG_ENTRY,
-    ("job_deck/src/following_log.rt", "for _ in .."): LONG_ENTRY,
-    ("job_deck/src/logs.rt", "exchanges: "): LARGEST_LOG,
-    ("job_deck/src/logs.rt", "accesses: "): LARGEST_LOG,
+    ("log_text/src/logs.rt", "exchanges: "): LARGEST_LOG,
+    ("log_text/src/logs.rt", "accesses: "): LARGEST_LOG,
+    ("log_text/src/following_log.rt", "ArrayVec<u8, "): nothing("the longest entry has 28 bytes"),
+    ("log_text/src/following_log.rt", "for _ in .."): nothing("so many bytes have room in the buffer"),
     ("job_deck/src/dumping.rt", "for number in .."): nothing("there are eight X registers"),
     ("job_deck/src/listing.rt", "while parcel <"): nothing("a word has four parcels"),
     ("operator_terms/src/budget.rt", "LARGEST_BUDGET"): repeated(
@@ -367,7 +366,10 @@ LIMITS = {
     ("operator_main/src/progress.rt", "PROGRESS_LINE"): nothing(
         "the line has at most five digits, and 12 bytes beside them"
     ),
-    ("operator_main/src/program.rt", "FAULT_LINE_WITH_POSITION"): nothing("the longest fault line has 229 bytes"),
+    ("operator_main/src/program.rt", "FAULT_LINE"): nothing("the longest fault line has 47 bytes"),
+    ("operator_main/src/program.rt", "FAULT_LINE_WITH_POSITION"): nothing(
+        "the longest fault line of a refused line has 40 bytes, and the longest line of a position 197"
+    ),
     ("refused_line/src/position.rt", "MOST_SHOWN_BYTES"): named(
         "decks/pages/refusals.md", "'12345670123456701234567012345670'.."
     ),

@@ -12,6 +12,10 @@
   pages. In the tools' sources this holds for tools and pages, since tests name decks and crates that they make. NAME
   stands for any name, and so does the crate in `crates/crate/`; `*` has to match something.
 - Links: the target of a link in a page is there, with the section if one is named. Targets in the web aren't looked up.
+- Decisions: docs/DECISIONS.md is the one page of its name. After its title and at most three sentences comes the table
+  of the forms that differ from the intended ones. The first two cells of each row name something in backquotes that is
+  there: a path, or an item of a source in crates/ or tools/, such as `Log::new`, `ProgramFault::Stuck`, `Ended.sent` or
+  `Storage`; and nothing that isn't there.
 
 Run it after a change of names, or of where files are.
 """
@@ -22,6 +26,7 @@ from functools import cache
 
 from cdc6600.crates.crate import crates
 from cdc6600.crates.table import Table
+from cdc6600.gate.decisions import faults_of_decisions
 from cdc6600.shared.instructions import ROWS
 from cdc6600.shared.program import ROOT
 
@@ -205,6 +210,7 @@ def faults_of_links(page, lines):
 
 def main():
     faults, pages = [*faults_of_names(), *faults_of_beginnings()], tracked("*.md")
+    faults += faults_of_decisions(pages, CRATES.values(), WORDS)
     for name in [path for path in tracked("crates", "tools", "bench") if path.endswith(KINDS)] + pages:
         lines = (ROOT / name).read_text(encoding="utf-8").split("\n")
         faults += faults_of_paths(name, lines)

@@ -81,8 +81,8 @@ WORDS = [
         "the right to serve the reservations of a unit",
         "a slot: the field of one unit, place or load channel",
         crates(
-            "program_order machine machine_tests progress_word machine_lock worker_loops unit_workers thread_tests"
-            " schedule_tests"
+            "program_order machine machine_tests progress_word machine_lock lock_tests worker_loops unit_workers"
+            " thread_tests schedule_tests"
         ),
         r"one of the seats that a machine gives out",
         r"[Tt]oken|[Cc]laim|machine|[Ww]orker|[Tt]hread|[Ss]erve|reservation",
@@ -93,7 +93,7 @@ WORDS = [
         "to meet a test, to go on, to hand on",
         crates(
             "instructions instruction_table unit_ops sequential in_flight deck core_tests"
-            " unit_queue progress_word machine_lock worker_loops unit_workers thread_tests"
+            " unit_queue progress_word machine_lock lock_tests worker_loops unit_workers thread_tests"
         ),
         r"(?!)",  # no line elsewhere
         r"`NO`|instruction|opcode|[Ll]ane\b|`Lane|\blog\b|LOG|\bissue",

@@ -9,17 +9,12 @@ from dataclasses import dataclass
 @dataclass(frozen=True)
 class Option:
     """An option: its name, the short one if it has one, what is said of it, and the name of its value if it takes
-    one. The value FILE is the name of a file."""
+    one."""
 
     name: str
     said: str
     short: str = ""
     value: str = ""
-
-    @property
-    def names_file(self):
-        """Whether its value is the name of a file."""
-        return self.value == "FILE"
 
     @property
     def names(self):
@@ -61,16 +56,15 @@ HELP = Option("--help", "Print help", "-h")
 VERSION = Option("--version", "Print version", "-V")
 BUDGET = Option("--budget", "Issues at most N instructions", value="N")
 SEQUENTIAL = Option("--sequential", "Does one instruction at a time, without threads")
-LOG = Option("--log", "Reads the log from FILE, or from standard input if FILE is -", value="FILE")
-DECK = Option("--deck", "Reads the deck from FILE instead of standard input", value="FILE")
+LOG_FOLLOWS = Option("--log-follows", "Reads the log from the line after the deck")
 COMMANDS = (
     Command("run", "Runs the deck on standard input and prints the machine's dump", (SEQUENTIAL, BUDGET)),
     Command(
         "replay",
         "Goes through LOG on the deck on standard input, one instruction at a time, and prints the machine's dump",
-        (LOG, DECK),
+        (LOG_FOLLOWS,),
         argument="LOG",
-        instead=LOG,
+        instead=LOG_FOLLOWS,
     ),
     Command(
         "events",
@@ -132,7 +126,7 @@ def zsh_option(option):
     """An option as `_arguments` takes it."""
     said = option.said.replace("[", "\\[").replace("]", "\\]")
     if option.value:
-        return quoted(f"{option.name}=[{said}]:{option.value}:{'_files' if option.names_file else ' '}")
+        return quoted(f"{option.name}=[{said}]:{option.value}: ")
     if option.short:
         return f"'(- *)'{{{option.short},{option.name}}}{quoted(f'[{said}]')}"
     return quoted(f"{option.name}[{said}]")
@@ -168,7 +162,7 @@ _{NAME} "$@"
 def fish_option(option, condition):
     """An option as `complete` of fish takes it."""
     short = f" -s {option.short.lstrip('-')}" if option.short else ""
-    value = " -rF" if option.names_file else " -x" if option.value else ""
+    value = " -x" if option.value else ""
     return f"complete -c {NAME}{condition}{short} -l {option.name.lstrip('-')}{value} -d {quoted(option.said)}\n"
 
 

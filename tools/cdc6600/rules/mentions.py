@@ -7,7 +7,7 @@ import re
 from dataclasses import dataclass
 from functools import cache
 
-from cdc6600.crates.crate import crates
+from cdc6600.crates.crate import EDITS, crates
 from cdc6600.crates.source import CLAUSE
 from cdc6600.shared.program import ROOT
 
@@ -138,7 +138,7 @@ class Cells:
 
     def edits(self, name, _rest):
         """A wrong body, by the first line that it writes."""
-        path = next(filter(self.is_there, (placed(name, it) for it in ("must-fail", "wrong-bodies"))), None)
+        path = next(filter(self.is_there, (placed(name, it) for it in EDITS)), None)
         return matching(path, lambda line: line.startswith("new:"))[:1] if path else []
 
     def is_there(self, path):

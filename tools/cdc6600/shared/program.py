@@ -1,10 +1,9 @@
 """The program cdc6600, run with a time limit that only a run without end exceeds."""
 
 import os
+import re
 import subprocess
 import sys
-import tempfile
-from contextlib import contextmanager
 from pathlib import Path
 from typing import NamedTuple
 
@@ -18,19 +17,21 @@ BUILT = ROOT / ("crates/operator_main/out/operator_main" if IS_CHECKOUT else "..
 
 # How many bytes of a log go into an argument. Linux takes at most 131,071.
 OF_AN_ARGUMENT = 100_000
+# The last line of a deck.
+LAST_LINE = re.compile(rb"^end(\n|\Z)", re.MULTILINE)
 
 
-@contextmanager
-def words_of_log(log):
-    """The words by which a command like `replay` gets a log: the log itself, or, if it is too long for an argument, the
-    option for its file and the name of a file that holds it meanwhile."""
-    if len(log) <= OF_AN_ARGUMENT:
-        yield [log]
-        return
-    with tempfile.NamedTemporaryFile("w", prefix="cdc6600-", suffix=".log", encoding="ascii") as file:
-        file.write(log)
-        file.flush()
-        yield ["--log", file.name]
+def followed(deck, log):
+    """A deck with the line of a log after it, in place of what follows the deck's last line. A deck without that line
+    is refused before its log is read, and stays as it is."""
+    last = LAST_LINE.search(deck)
+    return b"%send\n%s\n" % (deck[: last.start()], log.encode()) if last else deck
+
+
+def words_and_input(log, deck):
+    """The words by which a command like `replay` gets a log, and its standard input. The log is an argument or, if it
+    is too long for one, the line after the deck."""
+    return ([log], deck) if len(log) <= OF_AN_ARGUMENT else (["--log-follows"], followed(deck, log))
 
 
 class Ran(NamedTuple):
@@ -92,8 +93,8 @@ class Program:
 
     def replay(self, log, text):
         """Runs the replay of a log of any length on a deck."""
-        with words_of_log(log) as words:
-            return self.run(["replay", *words], text)
+        words, given = words_and_input(log, text)
+        return self.run(["replay", *words], given)
 
 
 def tell(faults):

@@ -20,7 +20,10 @@ from .verdicts import is_of
 from .written import without
 
 FILES = {"Answers.antt", "Invariants.antt"}
+# The most copies for one check, and about how many seconds the right bodies of these functions may take to prove. A
+# check of more keeps one processor busy at the end, while the others have nothing to do.
 TOGETHER = 24
+SECONDS = 70
 
 
 @dataclass(frozen=True)
@@ -113,10 +116,11 @@ def copied_proofs(item, suffix, folders, folder, left_out):
             yield str(copied_at.relative_to(folder)), path, text
 
 
-def copied(bodies, source, folder):
-    """The copies, in lists for one check each, that are about as long."""
+def copied(bodies, source, folder, pace=1):
+    """The copies, in lists for one check each, that are about as long. `pace` is how many seconds a function of the
+    crate takes to prove."""
     copies = [copy_of(body, f"wrong_{number}", source, folder) for number, body in enumerate(bodies)]
-    checks = -(-len(copies) // TOGETHER)
+    checks = -(-len(copies) // max(1, min(TOGETHER, int(SECONDS / pace))))
     return [copies[at::checks] for at in range(checks)]
 
 

@@ -10,6 +10,7 @@ import os
 from contextlib import suppress
 from pathlib import Path
 
+from cdc6600.crates.crate import EDITS
 from cdc6600.shared.program import ROOT
 
 from .verdicts import Verdict
@@ -47,13 +48,33 @@ def sum_of(table, crate, identity):
     return found.hexdigest()
 
 
+def own_sum(table, crate):
+    """A sum of a crate's own text and edits."""
+    found = hashlib.sha256()
+    for file in (file for part in (*PARTS, *EDITS) for file in sorted((table.folder(crate) / part).rglob("*"))):
+        if file.is_file():
+            found.update(f"{file.relative_to(table.folder(crate))} {file.stat().st_size}\n".encode())
+            found.update(file.read_bytes())
+    return found.hexdigest()
+
+
+def write(file, text):
+    """Writes a file whole, or not at all."""
+    with suppress(OSError):
+        file.parent.mkdir(parents=True, exist_ok=True)
+        part = file.with_suffix(f".{os.getpid()}")
+        part.write_text(text, encoding="utf-8")
+        part.replace(file)
+
+
 class Kept:
-    """What was found of the bodies of one crate as it is: for the sum of an edit, its verdict and the words for it."""
+    """What was found of the bodies of one crate as it is: for the sum of an edit, its verdict and the words for it. It
+    also knows the sum of the crate's own text when its bodies were last tried."""
 
     def __init__(self, crate, total, anew, is_once=False):
         folder = Path(os.environ.get("XDG_CACHE_HOME") or Path.home() / ".cache") / "dohikewa" / "wrong-bodies"
         files = [folder / f"{crate}-{total[:32]}{ending}.json" for ending in ("-once", "")[not is_once :]]
-        self.file, self.found = files[0], {}
+        self.file, self.text, self.found = files[0], folder / f"{crate}.text", {}
         for file in files if not anew else ():
             with suppress(ValueError, OSError):
                 self.found |= dict(json.loads(file.read_text(encoding="utf-8")))
@@ -70,10 +91,15 @@ class Kept:
         """Writes a verdict at once, so that a run that is cut off has not tried for nothing. If there is no place to
         write to, nothing is kept, and a later run tries all again."""
         self.found[self.key(body)] = verdict.kind, verdict.words
-        try:
-            self.file.parent.mkdir(parents=True, exist_ok=True)
-            part = self.file.with_suffix(f".{os.getpid()}")
-            part.write_text(json.dumps(self.found, indent=0), encoding="utf-8")
-            part.replace(self.file)
-        except OSError:
-            pass
+        write(self.file, json.dumps(self.found, indent=0))
+
+    def has_changed(self, own):
+        """Whether the crate's own text is another one than when its bodies were last tried. It isn't if nothing was
+        kept."""
+        with suppress(OSError):
+            return self.text.read_text(encoding="utf-8") != own
+        return False
+
+    def settle(self, own):
+        """Notes that the bodies were tried of this text."""
+        write(self.text, own)

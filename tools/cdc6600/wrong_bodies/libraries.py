@@ -13,9 +13,16 @@ import sys
 
 from cdc6600.crates.kit import checker
 
+# The kit reckons a stamp anew for each way that leads to a crate: with many layers that takes a minute.
 RECKONING = """
 import json, os
 import rtlib
+reckon, known = rtlib.Crate.stamp, {}
+def stamp(crate):
+    if crate.folder not in known:
+        known[crate.folder] = reckon(crate)
+    return known[crate.folder]
+rtlib.Crate.stamp = stamp
 print(json.dumps({crate.name: crate.stamp() for crate in rtlib.crates_below(os.getcwd())}))
 """
 

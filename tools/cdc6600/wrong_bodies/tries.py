@@ -2,10 +2,9 @@
 
 Each group is checked once, and the bodies that this check refuses once more (second.py), unless one check is to do.
 
-Libraries that `rt ci` has just proved are taken over, and others are built. Where a crate is built as a library for
-others, its groups run side by side, each in a workspace that begins with what that build kept. A crate that isn't built
-begins with nothing: its groups run in turn in few workspaces, over one another's work, and only the functions that they
-name, and those that these call, are ever proved.
+Libraries that `rt ci` has just proved are taken over, and others are built. The groups of a crate run side by side,
+each in a workspace of its own. What a check doesn't change it assumes (assumed.py), so no group waits for another's
+work.
 """
 
 import tempfile
@@ -16,22 +15,25 @@ from functools import partial
 from pathlib import Path
 
 from cdc6600.building import host
+from cdc6600.building.forecast import measured
 from cdc6600.building.processes import stop_all
+from cdc6600.crates.crate import NIGHTLY
 from cdc6600.crates.source import Sources, module_of
 from cdc6600.crates.table import Unreadable
 
-from .copies import beside, can_stand_beside, copied
+from .assumed import assumed
+from .copies import beside, can_stand_beside, copied, written_folders
 from .edits import merged, read_bodies
 from .groups import grouped
-from .kept import Kept, sum_of
+from .kept import Kept, own_sum, sum_of
 from .libraries import left_by_rt_ci
 from .opening import Opening
 from .second import after_one, again, copies_again, in_places_again, settled
 from .verdicts import CALLS, NOT_REFUSED, Outcome, Verdict, outcome_of
 from .workspaces import Workspace
 
-# How many groups are tried in one workspace that began with nothing, where a crate has more.
-IN_A_WORKSPACE = 12
+# The seconds that a function takes to prove in a crate of which it isn't known.
+PACE = 3
 
 
 @dataclass
@@ -66,10 +68,13 @@ class Crate:
     bodies: list
     kept: Kept
     opening: Opening
+    own: str  # the sum of its own text
+    left_out: int  # how many bodies of the night aren't tried
     groups: list = field(default_factory=list)
     verdicts: dict = field(default_factory=dict)  # by the name of the body
     faults: list = field(default_factory=list)
     seconds: float = 0.0
+    pace: float = 1.0  # the seconds that a function takes to prove, about
     idle: list = field(default_factory=list)  # the workspaces in which no group is being checked
     lock: threading.Lock = field(default_factory=threading.Lock)
 
@@ -79,30 +84,40 @@ class Crate:
             if verdict.kind != NOT_REFUSED:
                 self.kept.keep(body, verdict)
 
+    def settle(self):
+        """Notes that these bodies were tried of this text, if each was."""
+        if len(self.verdicts) == len(self.bodies):
+            self.kept.settle(self.own)
+
     def spent(self, seconds):
         with self.lock:
             self.seconds += seconds
 
 
-def read_crate(table, name, identity, anew, is_once):
-    """Reads a crate's bodies, and takes the verdicts that were kept of the very same text."""
-    source = Sources.read(table.folder(name))
-    bodies, faults = read_bodies(table.folder(name), source)
-    kept = Kept(name, sum_of(table, name, identity), anew, is_once)
-    crate = Crate(name, source, bodies, kept, Opening(table, name), faults=faults)
+def read_crate(table, name, identity, given):
+    """Reads a crate's bodies, and takes the verdicts that were kept of the very same text. Those of the night are left
+    out, unless all are asked for or the crate has changed since its bodies were last tried."""
+    source, own = Sources.read(table.folder(name)), own_sum(table, name)
+    found, faults = read_bodies(table.folder(name), source)
+    kept = Kept(name, sum_of(table, name, identity), given.anew, given.once)
+    are_all = given.all or bool(given.crates) or kept.has_changed(own)
+    bodies = [body for body in found if are_all or body.folder != NIGHTLY]
+    crate = Crate(name, source, bodies, kept, Opening(table, name), own, len(found) - len(bodies), faults=faults)
     for body in bodies:
         verdict = crate.kept.verdict(body)
         if verdict:
             crate.verdicts[body.name] = replace(verdict, words=f"{verdict.words} (kept)")
-    crate.groups = groups_of([body for body in bodies if body.name not in crate.verdicts], source, table.folder(name))
+    crate.pace = measured(table.root).get(name, 0) / max(len(source.functions()), 1) or PACE
+    left = [body for body in bodies if body.name not in crate.verdicts]
+    crate.groups = groups_of(left, source, table.folder(name), crate.pace)
     return crate
 
 
-def groups_of(bodies, source, folder):
+def groups_of(bodies, source, folder, pace=1):
     """The groups of bodies: copies of those that can stand beside the right ones, and the others in their places."""
     beside_right = [body for body in bodies if can_stand_beside(body, source, folder)]
     others = [body for body in bodies if body not in beside_right]
-    copies = [Group([copy.body for copy in part], part) for part in copied(beside_right, source, folder)]
+    copies = [Group([copy.body for copy in part], part) for part in copied(beside_right, source, folder, pace)]
     return [*copies, *map(Group, grouped(others, source))]
 
 
@@ -131,8 +146,8 @@ class Tries:
         self.table, self.room, self.at_once, self.is_once = table, Path(room), at_once, is_once
         self.libraries, self.broken, self.tasks, self.library_seconds = {}, {}, {}, 0.0
         tried = [crate for crate in crates if crate.groups]
-        # How much there is to check of a crate, about: its functions and those of its wrong bodies.
-        self.sizes = {crate.name: len(crate.source.functions()) + 4 * len(crate.bodies) for crate in tried}
+        # The checks of crates with the dearest functions are the longest, and come first.
+        self.sizes = {crate.name: crate.pace for crate in tried}
         self.groups = {crate.name: {(crate.name, number) for number in range(len(crate.groups))} for crate in tried}
         needed = {name for crate in tried for name in table.below(crate.name)}
         self.left = left_by_rt_ci(table) if needed and is_after_rt_ci else {}
@@ -143,12 +158,9 @@ class Tries:
             self.plan(crate, crate.name in needed and crate.name not in self.left)
 
     def plan(self, crate, is_built):
-        before = [("library", it) for it in self.table.below(crate.name)] + [("library", crate.name)] * is_built
-        workspaces = len(crate.groups) if is_built else -(-len(crate.groups) // IN_A_WORKSPACE)
+        waits = [("library", it) for it in self.table.below(crate.name)] + [("library", crate.name)] * is_built
         for number, group in enumerate(crate.groups):
-            waits = before if number < workspaces else [(crate.name, number - workspaces)]
-            judge = partial(self.judge, crate, group, is_built)
-            self.tasks[crate.name, number] = (waits, judge)
+            self.tasks[crate.name, number] = (waits, partial(self.judge, crate, group))
 
     def build(self, name):
         """Gets a library: the one that `rt ci` left, or one that is built over what the checkout's own checks kept of
@@ -170,25 +182,21 @@ class Tries:
         except (Unreadable, OSError) as fault:
             self.broken[name] = str(fault)
 
-    def workspace_of(self, crate, is_built):
-        """A workspace for a group's check: one that an earlier group has left, or a new one over what was kept of the
-        crate."""
+    def workspace_of(self, crate):
+        """A workspace for a group's check: one that an earlier group has left, or a new one."""
         with crate.lock:
             if crate.idle:
                 return crate.idle.pop()
         room = tempfile.mkdtemp(prefix=f"{crate.name}-", dir=self.room)
-        workspace = Workspace(self.table, room, crate.name, self.libraries)
-        folder = self.libraries[crate.name].folder if is_built else self.table.folder(crate.name)
-        workspace.take_kept(folder, "incremental")
-        return workspace
+        return Workspace(self.table, room, crate.name, self.libraries)
 
-    def judge(self, crate, group, is_built):
+    def judge(self, crate, group):
         """Checks a group and tells each body's verdict."""
         lacking = next((it for it in [*self.table.below(crate.name), crate.name] if it in self.broken), None)
         try:
             if lacking:
                 raise Unreadable(self.broken[lacking])
-            workspace = self.workspace_of(crate, is_built)
+            workspace = self.workspace_of(crate)
             self.judge_in(workspace, crate, group)
             with crate.lock:
                 crate.idle.append(workspace)
@@ -261,17 +269,22 @@ class Tries:
 
     def outcomes(self, crate, group, workspace):
         texts, paths = group.texts(crate.source), paths_of(group, crate.source)
+        wrong, folder = [] if group.copies else group.functions(), self.table.folder(crate.name)
+        files = [file for item in wrong for at in written_folders(item, folder) for file in at.glob("*.antt")]
+        proofs = {str(file.relative_to(folder)): file.read_text(encoding="utf-8") for file in files}
+        texts = assumed(crate.source, folder, wrong) | texts
         ran = workspace.check(texts, paths)
         if paths and ran.status == 2:
             # The check knows no function of such a path: then it proves all of the crate.
             crate.spent(ran.seconds)
             ran = workspace.check(texts, [])
         crate.spent(ran.seconds)
-        return group.outcomes(ran, crate.name, {**crate.source.texts, **texts})
+        read = {path: text for path, text in texts.items() if text is not None}
+        return group.outcomes(ran, crate.name, {**crate.source.texts, **proofs, **read})
 
     def behind(self, key):
-        """How much waits for a task: libraries that stand below many come first, and then the crates with most to
-        try."""
+        """How much waits for a task: libraries that stand below many come first, and then the crates with the dearest
+        functions."""
         if key[0] == "library":
             above = [it for it in self.table.lines if key[1] in self.table.below(it) and ("library", it) in self.tasks]
             return True, len(above), len(self.table.below(key[1]))

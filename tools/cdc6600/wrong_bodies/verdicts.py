@@ -20,6 +20,7 @@ from cdc6600.crates.source import items_of, module_of
 from cdc6600.crates.table import Unreadable
 
 from .opening import attributes_of
+from .written import resting
 
 LINE = re.compile(r"fn (\S+): (proved|not proved|no proof|could not tell|assumed|not assumed)\b(.*)")
 LEFT = re.compile(r"`search` did not prove ([^;]*)")
@@ -46,7 +47,7 @@ CALLS = re.compile(r"it calls `")
 ENDED = ("proved", "not proved", "no proof")
 # The end of the name of a copy (copies.py).
 NUMBERED = re.compile(r"_(?:wrong|right)_\d+$")
-ENDS = re.compile(r"only=(\d+) proved=(\d+)|logic=(proved|not-proved)\b.*")
+ENDS = re.compile(r"only=(\d+) proved=(\d+)|logic=(proved|not-proved)\b.*|(?:only=\d+ )?holes=(\d+)")
 STOPS = re.compile(r"(?<!fatal )\berror(\[[\w-]+\])?:|^rattle: ")
 REFUSED, NOT_REFUSED, CANT_TELL = "refused", "not refused", "can't tell"
 
@@ -160,6 +161,11 @@ def goals_of(lines, texts, item, crate):
             found.gone.append((it[1], it[3], it[4]))
         else:
             found.rejected.append((it[1], it[3]))
+    # Where contracts are assumed, the check takes a rejected step by its signature, and doesn't say what rests on it.
+    for path, name in list(found.rejected):
+        found.rejected += [(path, other) for other in resting(texts.get(path, ""), name)]
+    for path, name, _ in list(found.gone):
+        found.gone += [(path, other, f"it rests on `{name}`") for other in resting(texts.get(path, ""), name)]
     for it in found_by(RESTS):
         if (it[1], it[3]) in found.rejected:
             found.rejected += [(it[1], name) for name in it[4].split(", ")]
@@ -185,11 +191,17 @@ def own_goal(goals, item):
     raise Unreadable(f"it is refused, but at no goal of the contract of {item.name}: {'; '.join(reasons)}"[:400])
 
 
+def is_end_of_proof(found):
+    """Whether the last line of a check says that all is proved."""
+    asked, proved, verdict, holes = found.groups()
+    return verdict == "proved" or holes == "0" or asked is not None and asked == proved
+
+
 def hold_to_verdict(lines, status):
     """Raises where the check came to no verdict, by its last line, or where its status isn't the one of that
     verdict."""
     ends = [found for found in map(ENDS.fullmatch, lines) if found]
-    is_proved = len(ends) == 1 and (ends[0][3] == "proved" or ends[0][1] is not None and ends[0][1] == ends[0][2])
+    is_proved = len(ends) == 1 and is_end_of_proof(ends[0])
     if len(ends) == 1 and (status == 1 or status == 0 and is_proved):
         return
     said = [line for line in lines if line.strip()]

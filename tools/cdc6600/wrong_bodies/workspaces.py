@@ -8,10 +8,14 @@ its own stamp that they are up to date, wherever they lie.
 import fcntl
 import os
 import shutil
+from dataclasses import replace
 from pathlib import Path
 
 from cdc6600.building.processes import run
+from cdc6600.crates.kit import checker
 from cdc6600.crates.table import Unreadable
+
+from .assumed import as_proved
 
 PARTS = ("src", "specs", "proofs")
 
@@ -20,7 +24,7 @@ class Workspace:
     """A workspace that has one crate and what it stands on."""
 
     def __init__(self, table, room, crate, libraries):
-        self.crate, self.room = crate, Path(room)
+        self.table, self.crate, self.room = table, crate, Path(room)
         self.folder = self.room / "crates" / crate
         names = [*table.below(crate), crate]
         for name in names:
@@ -64,17 +68,34 @@ class Workspace:
         return ran.seconds
 
     def check(self, texts, paths):
-        """Checks the crate with these texts: the functions of these paths, or all where there are none. Then it has its
-        own texts again, and no file more."""
+        """Checks the crate with these texts: the functions of these paths, or all where there are none. A path without
+        a text has no file. Then the crate has its own texts again, and no file more."""
         right = {path: file.read_text(encoding="utf-8") for path in texts if (file := self.folder / path).is_file()}
         self.write(texts)
         only = [word for path in paths for word in ("--only", path)]
         try:
-            return run(["rt", "check", "--jobs", "1", *only], self.folder)
+            ran = run([str(checker()), "check", *self.words(), "--allow-holes", *only], self.folder)
+            return replace(ran, said=as_proved(ran.said))
         finally:
             for path in texts.keys() - right.keys():
                 self.remove(self.folder / path)
             self.write(right)
+
+    def words(self):
+        """The words by which the checker reads the crate over the libraries below it. It keeps nothing: where it does,
+        it checks a few functions at a time, each time in a process that loads the libraries anew."""
+        kit, below = checker().parent.parent, self.table.below(self.crate)
+        made = {name: self.room / "crates" / name / "out/rlib" for name in below}
+        top = "src/main.rt" if (self.folder / "src/main.rt").is_file() else "src/lib.rt"
+        found = ["--crate-name", self.crate, top]
+        for it in ["std", *self.table.uses[self.crate]]:
+            found += ["--extern", f"{it}={made.get(it, f'{kit}/rlibs')}/{it}.rlib"]
+        for folder in [*made.values(), f"{kit}/rlibs"]:
+            found += ["-L", f"dependency={folder}"]
+        if "staticlib" in self.table.lines[self.crate].partition(":")[0].split():
+            found += ["--crate-type", "staticlib"]
+        logic = ["--logic-built", f"{kit}/logic_built", "--antt-project", f"{kit}/rattle/logic/antt-project.json"]
+        return [*found, *logic, "--jobs", "1"]
 
     def remove(self, file):
         """Removes a file, and the folders that have nothing else."""
@@ -86,5 +107,8 @@ class Workspace:
 
     def write(self, texts):
         for path, text in texts.items():
+            if text is None:
+                (self.folder / path).unlink(missing_ok=True)
+                continue
             (self.folder / path).parent.mkdir(parents=True, exist_ok=True)
             (self.folder / path).write_text(text, encoding="utf-8")

@@ -35,6 +35,14 @@ def without(text, names):
     return "\n".join([*head, "", kept])
 
 
+def resting(text, name):
+    """The declarations of a proof file that cite this one, or another that does."""
+    parts, found = declarations(text), {name}
+    while more := {other for other, part in parts.items() if other not in found and cited_in(part) & found}:
+        found |= more
+    return [other for other in parts if other in found and other != name]
+
+
 def declarations(text):
     """The declarations of a proof file by their names: of each its signature, with the line `unfolding` below it, and
     its equations."""

@@ -1,7 +1,7 @@
 -- References that enter the hopper and are taken by their banks, beside the list of pending instructions.
 use Rattle.std.proofs.Common.{◌≡◌, ◌≢◌, ◌<◌, ◌≤◌, ◌+◌, ℕ, Bool, true, false, cond, List, [], ◌∷◌, ◌++◌, Option, Some}
 use Rattle.std.proofs.Common.{None, refl, sym, ap, ◌∙◌, subst, eqb, ltb, get_or, set, length, arith, append-nil}
-use Rattle.std.specs.Prelude.{◌&&◌, ◌||◌, is_none, is_some, Result, Ok, Err, IfSome, MatchOption, unwrap_or}
+use Rattle.std.specs.Prelude.{◌&&◌, ◌||◌, is_none, is_some, Result, Ok, Err, IfSome, unwrap_or}
 use Rattle.std.specs.List.{list_any}
 use Rattle.std.proofs.lemmas.Bool.{or_parts, eqb-true, eqb-false, eq-eqb, lt-ltb}
 use Rattle.std.proofs.lemmas.Option.{same_Some}
@@ -609,19 +609,6 @@ none_has_come i j rest l er el ej = record {
   board = ap (λ (k : Inside). k.board) ej;
   queue = ap (λ (k : Inside). k.hopper) ej ∙ sym (ap (queue_with i.hopper) el);
 }
-
--- what an instruction leaves is answered, where there is one
-pub left_answered : (u : FunctionalUnit) (ms : List Pending) (queue : Queue) (f : Found Pending Stage)
-    (rest : Option Relocated) (l : Option Outstanding) (now : Flight) → queue.entered ≡ waiting ms
-    → ms ≡ now.pending → seek (stage_at u) ms ≡ Some f
-    → l ≡ outstanding_of (unwrap_or (free_in queue.entered) 0) rest
-    → MatchOption (located (seek (stage_at u) now.pending)) (l ≡ None)
-    (λ s. l ≡ outstanding_of (unwrap_or (place_for now.pending) 0) rest)
-unfolding located
-left_answered u ms queue f rest l now e en h el =
-    subst (λ o. MatchOption (located o) (l ≡ None)
-    (λ s. l ≡ outstanding_of (unwrap_or (place_for now.pending) 0) rest)) (sym (ap (seek (stage_at u)) (sym en) ∙ h))
-    (later_is ms queue rest l e el ∙ ap (λ z. outstanding_of (unwrap_or (place_for z) 0) rest) en)
 
 -- ---- the references in the order in which they entered ----
 

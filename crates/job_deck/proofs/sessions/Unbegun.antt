@@ -12,7 +12,7 @@ use Rattle.deck.specs.Reading.{EndsWithin, GivesNoDeck, is_cut, is_of_reading}
 use Rattle.deck.specs.declared.deck.Deck.{Deck}
 use Rattle.job_deck.specs.Listing.{Lists, is_write_failure}
 use Rattle.job_deck.specs.Replaying.{Replays, ReplaysFollowing}
-use Rattle.job_deck.specs.FollowingLog.{ReadsWithinLine}
+use Rattle.log_text.specs.FollowingLog.{ReadsWithinLine}
 use Rattle.job_deck.specs.SessionResult.{Performs}
 
 -- no write failed where no deck was read

@@ -15,12 +15,12 @@ use Rattle.device_text.specs.Device.{WritesFront}
 use Rattle.device_text.specs.Putting.{Puts}
 use Rattle.device_text.specs.declared.output.Output as output
 use Rattle.device_text.specs.declared.output.WriteFailed.{WriteFailed}
-use Rattle.device_text.specs.Line.{IsText, lines_of}
+use Rattle.device_text.specs.Line.{IsTaken, IsText, lines_of}
 use Rattle.job_deck.specs.Schedule.{line_says, left_after_line}
 use Rattle.job_deck.specs.Session.{IsDump, IsReply, Session}
 use Rattle.job_deck.specs.declared.schedule.ScheduleLine.{ScheduleLine}
 use Rattle.job_deck.specs.declared.schedule.ScheduleLine.TheVariants.{Makes, Ends, Drains, Faulty}
-use Rattle.job_deck.specs.SessionResult.{IsRefused, IsTaken, WritesCut}
+use Rattle.job_deck.specs.SessionResult.{IsRefused, WritesCut}
 
 -- line n was read, and this is its meaning. The whole line was read unless it is at fault. Nothing was read past a line
 -- at fault

@@ -1,7 +1,7 @@
 -- What the made and the refused events leave, over a plain machine.
 use Rattle.std.proofs.Common.{◌≡◌, ◌≤◌, ◌+◌, ℕ, Bool, true, false, List, [], ◌∷◌, ◌++◌, Option, Some, None, length}
 use Rattle.std.proofs.Common.{refl, sym, ap, ◌∙◌, subst, suc, add-one, arith, leb}
-use Rattle.std.specs.Prelude.{Result, Ok, Err, ◌^◌, ◌-◌, min, unwrap_or, set, IfSome, MatchOption, replicate}
+use Rattle.std.specs.Prelude.{Result, Ok, Err, ◌^◌, ◌-◌, min, unwrap_or, set, IfSome, replicate}
 use Rattle.std.proofs.lemmas.Bool.{leb-true, leb-false, le-leb, lt-leb}
 use Rattle.instructions.specs.declared.instr.Instr.{Instr}
 use Rattle.instructions.specs.declared.instr.Reg.TheVariants.{X}
@@ -52,7 +52,6 @@ use Rattle.program_order.specs.Run.{note_by, done_by, answer_by, answer_of, sett
 use Rattle.in_flight.specs.Lookup.{located, stage_at, entry_at, arrival_at, place_for, in_phase, kept, is_pending}
 use Rattle.instructions.specs.Finding.{replaced, Found, seek, put_back}
 use Rattle.machine.specs.inner.View.{owed, IsKept, processor_of}
-use Rattle.machine.specs.Tokens.{rest_after, rest_at}
 use Rattle.program_order.specs.Processor.{Processor, boot_processor, completed, replayed}
 use Rattle.in_flight.specs.Flight.{relocated}
 use Rattle.program_order.specs.Units.{finish_tests, store_tests, rest_of, stage_after_read, stage_after_finish}
@@ -541,30 +540,6 @@ store_parts w u size m v work s rest g p ez is el es em =
     (fault_of (bounds_of w.state) work.reference) is (ap (fault_of (bounds_of w.state)) is.reference))
     (ap (outstanding_of free) el ∙ ap (λ x. rest_of x free q) (bounds_at w size ez))
     em
-
--- what is left after the store event, from what the store answers
-pub rest_left : (w : Processor) (u : FunctionalUnit) (size : ℕ) (m : Pending) (v : UnitValue) (rest : Option Relocated)
-    (left : Option Outstanding)
-    → located (seek (stage_at u) w.pending) ≡ Some (record { pending = m; answer = Finished v })
-    → size ≡ length w.state.memory
-    → rest ≡ relocated (record { area = w.state.area; size = size }) (reference_for (shape_of m.instr) v)
-    → MatchOption (located (seek (stage_at u) w.pending)) (left ≡ None)
-    (λ x. left ≡ outstanding_of (unwrap_or (place_for w.pending) 0) rest)
-    → left ≡ rest_after w (seek (stage_at u) w.pending)
-unfolding rest_after rest_at located
-rest_left w u size m v rest left h ez el k = found (seek (stage_at u) w.pending) h k
-  where
-    found : (q : Option (Found Pending Stage)) → located q ≡ Some (record { pending = m; answer = Finished v })
-        → MatchOption (located q) (left ≡ None) (λ x. left ≡ outstanding_of (unwrap_or (place_for w.pending) 0) rest)
-        → left ≡ rest_after w q
-    found None i j = absurd (no_sought (record { pending = m; answer = Finished v }) i)
-    found (Some f) i j =
-        j ∙ ap (outstanding_of (unwrap_or (place_for w.pending) 0)) el
-        ∙ ap (λ b. rest_of b (unwrap_or (place_for w.pending) 0) (reference_for (shape_of m.instr) v))
-        (bounds_at w size ez)
-        ∙ ap (λ (x : Pending). rest_at w x.instr (Finished v))
-        (sym (sought_pending f (record { pending = m; answer = Finished v }) i))
-        ∙ ap (rest_at w f.item.instr) (sym (sought_what f (record { pending = m; answer = Finished v }) i))
 
 -- ---- boot ----
 

@@ -1,13 +1,12 @@
-ghost use Rattle.std.specs.Prelude.{◌≡◌, IfOk, MatchResult};
+ghost use Rattle.std.specs.Prelude.{◌≡◌, MatchResult};
 ghost use Rattle.program_order.specs.declared.event.Event.TheVariants.{Read, Finish, Store};
 ghost use Rattle.program_order.specs.Run.{answer_of, settled};
 ghost use Rattle.in_flight.specs.Tests.{refusal_in};
-ghost use Rattle.machine.specs.Tokens.{slot, rest_after};
 ghost use Rattle.program_order.specs.Events.{allowed, after};
 
 use crate::processor::made;
 use crate::{Answer, Machine};
-use in_flight::{Located, Outstanding, Relocated, Stage};
+use in_flight::{Located, Relocated, Stage};
 use instruction_table::{Refusal, Unit};
 use judging::judge_finish;
 use sequential::Work;
@@ -34,13 +33,11 @@ impl Machine {
         made(&judged)
     }
 
-    /// Stores a unit's result, makes its jump or its reference, and releases the unit. Returns the rest of the
-    /// instruction: its reference, in a place of the hopper or in its load channel.
-    pub(crate) fn store_result(&mut self, unit: Unit) -> Result<Option<Outstanding>, Refusal>
+    /// Stores a unit's result, makes its jump or its reference, and releases the unit.
+    pub(crate) fn store_result(&mut self, unit: Unit) -> Result<(), Refusal>
         ensures answer { allowed self.old (Store unit) ≡ refusal_in result }
-        ensures after { MatchResult result (λ rest. self.new ≡ after self.old (Store unit))
+        ensures after { MatchResult result (λ _. self.new ≡ after self.old (Store unit))
             (λ refusal. self.new ≡ self.old) }
-        ensures rest { IfOk result (λ rest. rest ≡ rest_after self.old (slot self.old unit)) }
     {
         let Some(Located { pending, answer }) = self.in_flight.find(unit) else {
             return Err(Refusal::Nothing);
@@ -53,7 +50,8 @@ impl Machine {
         let reference = Relocated::of(&self.state.area, size, &work.reference);
         self.in_flight.may_store(unit, &reference)?;
         self.state.write_and_jump(&work);
-        Ok(self.in_flight.leave(unit, &reference))
+        self.in_flight.leave(unit, &reference);
+        Ok(())
     }
 
     /// Stores a unit's result, makes its jump or its reference, and releases the unit.

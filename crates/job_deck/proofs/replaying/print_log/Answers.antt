@@ -1,7 +1,7 @@
 use Rattle.std.proofs.Common.{◌||◌, ap, sym, ◌∙◌}
 use Rattle.std.proofs.lemmas.Result.{err_from_is_err_and}
 use Rattle.instructions.proofs.Lists.{or_false}
-use Rattle.job_deck.specs.LogText.{steps_of_log}
+use Rattle.log_text.specs.LogText.{steps_of_log}
 use Rattle.job_deck.proofs.printing.Refused.{refused_printed, refused_unwritten}
 use Rattle.job_deck.proofs.replaying.print_log.Goals as goal
 

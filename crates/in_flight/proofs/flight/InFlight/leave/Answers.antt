@@ -11,14 +11,14 @@ use Rattle.in_flight.specs.Apart.{IsApart}
 use Rattle.in_flight.proofs.answering.Beside.{some_from, nobody_from}
 use Rattle.in_flight.proofs.answering.Referring.{HasCome, has_entered, not_refused, load_has_come, store_has_gone}
 use Rattle.in_flight.proofs.answering.Referring.{none_has_come, room_for_rest, room_in_queue, leave_tied, leave_flight}
-use Rattle.in_flight.proofs.answering.Referring.{leave_nobody, left_answered}
+use Rattle.in_flight.proofs.answering.Referring.{leave_nobody}
 use Rattle.in_flight.proofs.flight.InFlight.leave.Goals.{in-None, in-Some+in-Some-address+in-Ok}
 use Rattle.in_flight.proofs.flight.InFlight.leave.Goals.{in-Some+in-Some-address+in-Err, in-Some+in-None-address+in-Load}
 use Rattle.in_flight.proofs.flight.InFlight.leave.Goals.{in-Some+in-None-address+in-Store}
 use Rattle.in_flight.proofs.flight.InFlight.leave.Goals as goal
 
-pub returns-then-is_none-clause-after : goal.returns-then-is_none-clause-after
-returns-then-is_none-clause-after c =
+pub returns-then-is_none : goal.returns-then-is_none
+returns-then-is_none c =
     leave_nobody c.args.unit c.args.rest.now c.args.self.now
     (sym (ap (λ (x : Flight). seek (stage_at c.args.unit) x.pending) c.self.view_is)
     ∙ nobody_from (seek (stage_at c.args.unit) c.self.inside.slots) c.find_stage.result c.is_none.result
@@ -89,34 +89,8 @@ invariant_of-self c =
     (c.release.ensures ∙ ap (λ (b : Standing). with_issued b (replaced (seek (held_in c.args.unit) b.issued) b.issued
     left)) come.board)
 
-pub returns-clause-left : goal.returns-clause-left
-returns-clause-left c =
-    let p = (some_from (seek (stage_at c.args.unit) c.self.inside.slots) c.find_stage.result c.is_none.result
-    c.find_stage.ensures c.is_none.ensures c.if-is_none.false) in
-    let come : HasCome c.self.inside c.match-rest.self-inside c.args.rest.now c.match-rest.left =
-    elim c.match-rest.branch [
-      | in-None w ↦ none_has_come c.self.inside c.match-rest.self-inside c.args.rest.now c.match-rest.left
-          w.in-None.is w.left-is w.self-inside-is
-      | in-Some+in-Some-address+in-Ok w ↦ has_entered c.self.inside c.match-rest.self-inside c.args.rest.now
-          w.in-Some.reference w.in-Some-address.address w.in-Ok.place w.enter.result w.enter.new.self
-          c.match-rest.left w.in-Some.is w.in-Some-address.is w.enter.ensures.answer w.in-Ok.is
-          w.in-Ok.ensures.after w.left-is w.self-inside-is
-      | in-Some+in-Some-address+in-Err w ↦ absurd (not_refused c.self.inside.hopper.entered c.args.rest.now
-          w.in-Some.reference w.in-Some-address.address w.enter.result w.in-Err.field-0 w.in-Some.is w.in-Some-address.is
-          w.enter.ensures.answer w.in-Err.is (room_in_queue c.self.inside.slots c.self.inside.hopper c.args.rest.now
-          c.self.invariant.entered (subst (λ (x : Flight). enters (outstanding_of 0 c.args.rest.now) ≡ true
-          → is_none (place_for x.pending) ≡ false) (sym c.self.view_is) c.requires.room)))
-      | in-Some+in-None-address+in-Load w ↦ load_has_come c.self.inside c.match-rest.self-inside c.args.rest.now w.in-Some.reference
-          w.in-Load.n w.default.result c.match-rest.left w.in-Some.is w.in-None-address.is w.in-Load.is
-          (sym w.default.ensures.1 ∙ w.default.ensures.2) w.left-is w.self-inside-is
-      | in-Some+in-None-address+in-Store w ↦ store_has_gone c.self.inside c.match-rest.self-inside c.args.rest.now w.in-Some.reference
-          w.in-Store.field-0 c.match-rest.left w.in-Some.is w.in-None-address.is w.in-Store.is w.left-is w.self-inside-is
-    ] in
-    left_answered c.args.unit c.self.inside.slots c.self.inside.hopper p.0 c.args.rest.now c.match-rest.left
-    c.args.self.now c.self.invariant.entered (ap (λ (x : Flight). x.pending) c.self.view_is) p.1 come.left
-
-pub returns-clause-after : goal.returns-clause-after
-returns-clause-after c =
+pub returns : goal.returns
+returns c =
     let come : HasCome c.self.inside c.match-rest.self-inside c.args.rest.now c.match-rest.left =
     elim c.match-rest.branch [
       | in-None w ↦ none_has_come c.self.inside c.match-rest.self-inside c.args.rest.now c.match-rest.left

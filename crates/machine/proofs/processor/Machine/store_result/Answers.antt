@@ -6,13 +6,11 @@ use Rattle.in_flight.specs.Lookup.{stage_at}
 use Rattle.in_flight.specs.Tests.{refusal_in}
 use Rattle.in_flight.proofs.answering.Beside.{nothing_there}
 use Rattle.machine.specs.contracts.processor.Machine.{the_view}
-use Rattle.machine.specs.Tokens.{rest_after, slot}
 use Rattle.sequential.specs.Log.{issued}
 use Rattle.in_flight.specs.Flight.{Flight}
 use Rattle.program_order.specs.Events.{allowed, after}
-use Rattle.program_order.specs.Processor.{Processor}
 use Rattle.machine.proofs.making.Leaving.{store_rest, store_room}
-use Rattle.machine.proofs.making.Making.{still_kept, with_flight, store_judged, store_parts, rest_left}
+use Rattle.machine.proofs.making.Making.{still_kept, with_flight, store_judged, store_parts}
 use Rattle.machine.proofs.making.Storing.{found_finished, reference_made, store_asked, unfinished}
 use Rattle.relocation.specs.Saved.{original}
 use Rattle.sequential.specs.declared.state.State.{State}
@@ -45,7 +43,7 @@ made c =
     ∙ store_parts (the_view c.self.inside) c.args.unit c.size-size.result c.in-Some.field-0.pending c.in-Finished.value
     c.of-work.result c.write_and_jump.new.self c.of-reference.result
     c.leave.new.self f c.size-size.ensures.value c.of-work.ensures e
-    c.write_and_jump.ensures c.leave.ensures.after
+    c.write_and_jump.ensures c.leave.ensures
 
 pub returns-in_default-clause-answer : goal.returns-in_default-clause-answer
 returns-in_default-clause-answer c = ap (λ x. allowed x (StoreResult c.args.unit)) (sym c.self.view_is)
@@ -61,7 +59,6 @@ returns-in_default-answer c = record {
       (seek (stage_at c.args.unit) (the_view c.self.inside).pending) c.in-Some.field-0
       (sym c.find.ensures ∙ c.in-Some.is) c.in_default-answer.not-Finished) refl;
   after = refl;
-  rest = tt;
 }
 
 pub returns-in_err-may_store-clause-answer : goal.returns-in_err-may_store-clause-answer
@@ -105,7 +102,7 @@ invariant_of-self c =
     c.in-Finished.value c.of-reference.result (refusal_in c.may_store.result) _ f c.size-size.ensures.value e
     c.may_store.ensures (ap refusal_in c.in_ok-may_store.was)) (made c) c.self.invariant
     c.self.invariant.room
-    (subst (λ n. n ≤ issued c.self.inside.log.steps) (sym (ap (λ (f : Flight). f.last) c.leave.ensures.after))
+    (subst (λ n. n ≤ issued c.self.inside.log.steps) (sym (ap (λ (f : Flight). f.last) c.leave.ensures))
     c.self.invariant.numbered) c.self.invariant.limit
 
 pub returns-clause-answer : goal.returns-clause-answer
@@ -120,12 +117,3 @@ returns-clause-answer c =
 
 pub returns-clause-after : goal.returns-clause-after
 returns-clause-after c = made c ∙ ap (λ x. after x (StoreResult c.args.unit)) c.self.view_is
-
-pub returns-clause-rest : goal.returns-clause-rest
-returns-clause-rest c =
-    let f = found_finished _ _ c.in-Some.field-0 c.in-Finished.value c.find.ensures c.in-Some.is c.in-Finished.is in
-    let e = reference_made _ c.of-reference.result c.of-work.result c.in-Some.field-0.pending c.in-Finished.value
-    c.of-reference.ensures c.of-work.ensures in
-    rest_left (the_view c.self.inside) c.args.unit c.size-size.result c.in-Some.field-0.pending c.in-Finished.value
-    c.of-reference.result c.leave.result f c.size-size.ensures.value e c.leave.ensures.left
-    ∙ ap (λ (x : Processor). rest_after x (slot x c.args.unit)) c.self.view_is

@@ -8,8 +8,8 @@ invariant_of-self g c = record {
   replay = c.keeps_replay.ensures.replay;
   seen = (
     c.self.invariant.seen.0,
-    token_kept c.self.inside.machine c.store_with_rest-stored.new.self (Store c.args.token.seat.unit) c.self.inside.pass.me
-        c.store_with_rest-stored.result
-        refl c.self.invariant.seen.1 c.store_with_rest-stored.ensures.after,
+    token_kept c.self.inside.machine c.store-stored.new.self (Store c.args.token.seat.unit) c.self.inside.pass.me
+        c.store-stored.result
+        refl c.self.invariant.seen.1 c.store-stored.ensures.after,
   );
 }

@@ -1,0 +1,278 @@
+//! How the threads that drive a machine wake each other.
+ghost use Rattle.std.specs.Prelude.{◌≡◌};
+
+use crate::fixtures::{FIRST, booted, leave, note, opened};
+use instruction_table::{Refusal, Unit};
+use machine::{Machine, Note, Seat};
+use machine_lock::{Ground, Naming, Seen, Shared, Signal, Signals, Wakeups};
+use std::alloc::Global;
+use std::marker::Brand;
+use std::sync::Wait;
+use std::test::Fail;
+use std::thread::{Threads, join};
+
+/// The counts of the signals so far.
+fn told<K: Naming>(shared: &Shared<K>) -> Counts {
+    let signals = shared.signals();
+    (
+        signals.issuing.count(),
+        signals.requests.count(),
+        signals.memory.count(),
+    )
+}
+
+/// How often the signal of each unit's worker was raised.
+fn sent<K: Naming>(shared: &Shared<K>) -> [u64; 7] {
+    let signals = shared.signals();
+    [
+        signals.worker(Unit::Branch).count(),
+        signals.worker(Unit::Boolean).count(),
+        signals.worker(Unit::Shift).count(),
+        signals.worker(Unit::LongAdd).count(),
+        signals.worker(Unit::Divide).count(),
+        signals.worker(Unit::Increment1).count(),
+        signals.worker(Unit::Increment2).count(),
+    ]
+}
+
+/// Serves a reservation from claim to store. Also returns the counts after the claim, the read, the finish and the
+/// store; `None` if a step is refused.
+fn served<K: Naming, R: Wait>(
+    rt: &R,
+    shared: &Shared<K>,
+    seat: Seat,
+    note: Note,
+) -> (Seat, Option<[Counts; 4]>) {
+    let reserved = match shared.claim(rt, seat, note) {
+        Ok(reserved) => reserved,
+        Err((_, seat)) => return (seat, None),
+    };
+    let claimed = told(shared);
+    let loaded = match shared.read(rt, reserved) {
+        Ok(loaded) => loaded,
+        Err((_, reserved)) => return (reserved.abandon(), None),
+    };
+    let read = told(shared);
+    let result = match shared.finish(rt, loaded.compute()) {
+        Ok(result) => result,
+        Err((_, computed)) => return (computed.abandon(), None),
+    };
+    let finished = told(shared);
+    match shared.store(rt, result) {
+        Ok(seat) => (seat, Some([claimed, read, finished, told(shared)])),
+        Err((_, result)) => (result.abandon(), None),
+    }
+}
+
+/// The issuing thread is woken when an exchange was asked for and, if it waits for a change, when a unit has stored.
+/// The thread that makes requests is woken when an exchange was made, and the storage worker when a unit that makes
+/// references has stored. A refused call wakes no thread.
+#[test]
+fn stores_are_told(rt: HostRuntime) -> Result<(), Fail> {
+    let machine = booted(rt.alloc(), &[(0o100, FIRST)])?;
+    let ground = Ground::new(rt.alloc())?;
+    let stored = stores_told::<Brand, _>(&rt, rt.alloc(), ground, machine)?;
+    let after = Some([(1, 1, 0), (1, 1, 0), (1, 1, 0), (2, 1, 1)]);
+    let refused = Err(Refusal::Nothing);
+    assert_eq!(rt;
+        stored,
+        (true, (Unit::Increment1, 1), after, refused, (2, 1, 1))
+    );
+    Ok(())
+}
+
+/// How often the signals of the issuing thread, the asking thread and the storage worker were raised.
+type Counts = (u64, u64, u64);
+
+/// Whether the exchange and the issue were made, and the seat's unit and count. Then the counts at each step of the
+/// reservation, the answer of an acceptance, and the counts after that.
+type Stored = (
+    bool,
+    (Unit, u64),
+    Option<[Counts; 4]>,
+    Result<(), Refusal>,
+    Counts,
+);
+
+fn stores_told<K: Naming, R: Wait>(
+    rt: &R,
+    alloc: Global,
+    ground: Ground,
+    machine: Machine,
+) -> Result<Stored, Refusal>
+    requires { ground ≡ K.table }
+{
+    let (shared, seat, mut seen) = opened::<K>(alloc, ground, machine)?;
+    let asked = shared.ask(rt, &mut seen, 0o40);
+    let exchanged = shared.exchange(rt, &mut seen);
+    let issued = shared.issue(rt, &mut seen);
+    shared.signals().issuing.await_change(true);
+    let (seat, after) = served(rt, &shared, seat, note(Unit::Increment1, 1));
+    let refused = shared.accept(rt, 0);
+    let is_made = asked.is_ok() && exchanged.is_ok() && issued.is_ok();
+    Ok((is_made, leave(seat), after, refused, told(&shared)))
+}
+
+/// A raise for one unit raises the signal of its worker alone; the end raises all signals.
+#[test]
+fn the_end_is_told_to_all(rt: HostRuntime) -> Result<(), Fail> {
+    let machine = booted(rt.alloc(), &[])?;
+    let ground = Ground::new(rt.alloc())?;
+    let counts = end_told::<Brand, _>(&rt, rt.alloc(), ground, machine)?;
+    let before = ([0, 0, 1, 0, 0, 0, 0], (0, 0, 0));
+    let after = ([1, 1, 2, 1, 1, 1, 1], (1, 1, 1));
+    assert_eq!(rt; counts, [before, after]);
+    Ok(())
+}
+
+/// The counts of the workers and of the other threads, before the end and after it.
+fn end_told<K: Naming, R: Wait>(
+    rt: &R,
+    alloc: Global,
+    ground: Ground,
+    machine: Machine,
+) -> Result<[([u64; 7], Counts); 2], Refusal>
+    requires { ground ≡ K.table }
+{
+    let (shared, seat, _) = opened::<K>(alloc, ground, machine)?;
+    seat.leave();
+    shared.signals().worker(Unit::Shift).raise();
+    let before = (sent(&shared), told(&shared));
+    shared.end(rt);
+    Ok([before, (sent(&shared), told(&shared))])
+}
+
+/// A signal is raised by a change that its thread waits for, and by nothing else.
+#[test]
+fn waiting_threads_are_told(rt: HostRuntime) -> Result<(), Fail> {
+    let machine = booted(rt.alloc(), &[])?;
+    let ground = Ground::new(rt.alloc())?;
+    let counts = told_by_turns::<Brand, _>(&rt, rt.alloc(), ground, machine)?;
+    assert_eq!(rt; counts, [0, 1, 1, 2]);
+    Ok(())
+}
+
+/// The counts of a signal after a change and a read: if its thread waits for nothing, for a change, for nothing again,
+/// and for a read.
+fn told_by_turns<K: Naming, R: Wait>(
+    _rt: &R,
+    alloc: Global,
+    ground: Ground,
+    machine: Machine,
+) -> Result<[u64; 4], Refusal>
+    requires { ground ≡ K.table }
+{
+    let (shared, seat, _) = opened::<K>(alloc, ground, machine)?;
+    seat.leave();
+    let signal = &shared.signals().memory;
+    let changed = Wakeups {
+        changed: true,
+        ..Wakeups::default()
+    };
+    let read = Wakeups {
+        read: true,
+        ..Wakeups::default()
+    };
+    let mut counts = [0; 4];
+    for (turn, waits) in [(false, false), (true, false), (false, false), (false, true)]
+        .iter()
+        .enumerate()
+    {
+        signal.await_change(waits.0);
+        signal.await_read(waits.1);
+        signal.wake(&changed);
+        signal.wake(&read);
+        counts[turn] = signal.count();
+    }
+    Ok(counts)
+}
+
+/// A wait ends if its signal is raised, and also if it isn't; then the wait can be repeated.
+#[test]
+fn waits_end(rt: HostRuntime) -> Result<(), Fail> {
+    let machine = booted(rt.alloc(), &[])?;
+    let ground = Ground::new(rt.alloc())?;
+    assert_eq!(rt;
+        wait_and_raise::<Brand, _>(&rt, rt.alloc(), ground, machine)?,
+        [0, 1, 1, 2]
+    );
+    Ok(())
+}
+
+/// The counts of a signal after a fruitless wait, after a wait that another thread ended, after many fruitless waits,
+/// and after one more wait that another thread ended.
+fn wait_and_raise<K: Naming, R: Threads + Wait + Sync>(
+    rt: &R,
+    alloc: Global,
+    ground: Ground,
+    machine: Machine,
+) -> Result<[u64; 4], Refusal>
+    requires { ground ≡ K.table }
+{
+    let (shared, seat, _) = opened::<K>(alloc, ground, machine)?;
+    seat.leave();
+    let (signals, signal) = (shared.signals(), &shared.signals().memory);
+    let mut wait = signals.waiting();
+    wait.until_raised(rt, signal, 0);
+    let in_vain = signal.count();
+    let (raised, ()) = join(rt, || next_count(rt, signals, 0), || signal.raise());
+    for _ in 0..70 {
+        wait.until_raised(rt, signal, 1);
+    }
+    let unchanged = signal.count();
+    let (again, ()) = join(rt, || next_count(rt, signals, 1), || signal.raise());
+    Ok([in_vain, raised, unchanged, again])
+}
+
+/// Waits until the count of the storage worker's signal is no longer this one, and returns it.
+fn next_count<R: Wait>(rt: &R, signals: &Signals, count: u64) -> u64 {
+    let mut wait = signals.waiting();
+    for _ in rt.forever() {
+        if signals.memory.count() != count {
+            return signals.memory.count();
+        }
+        wait.until_raised(rt, &signals.memory, count);
+    }
+    unreachable!()
+}
+
+/// Sleeps until a signal was raised, and returns its count.
+fn woken<R: Wait>(rt: &R, signal: &Signal) -> u64 {
+    for _ in rt.forever() {
+        let count = signal.count();
+        if count != 0 {
+            return count;
+        }
+        signal.sleep(rt, count);
+    }
+    unreachable!()
+}
+
+/// A sleep ends both if its signal is raised and if it isn't.
+#[test]
+fn sleeps_end(rt: HostRuntime) -> Result<(), Fail> {
+    let machine = booted(rt.alloc(), &[])?;
+    let ground = Ground::new(rt.alloc())?;
+    assert_eq!(rt;
+        sleep_and_wake::<Brand, _>(&rt, rt.alloc(), ground, machine)?,
+        1
+    );
+    Ok(())
+}
+
+/// The count of the signal that ended the second sleep.
+fn sleep_and_wake<K: Naming, R: Threads + Wait + Sync>(
+    rt: &R,
+    alloc: Global,
+    ground: Ground,
+    machine: Machine,
+) -> Result<u64, Refusal>
+    requires { ground ≡ K.table }
+{
+    let (shared, seat, _) = opened::<K>(alloc, ground, machine)?;
+    seat.leave();
+    let requests = &shared.signals().requests;
+    requests.sleep(rt, 0);
+    let (count, ()) = join(rt, || woken(rt, requests), || requests.raise());
+    Ok(count)
+}

@@ -1,0 +1,3 @@
+pub mod LogReading
+pub mod FieldLengths
+pub mod FollowingLines

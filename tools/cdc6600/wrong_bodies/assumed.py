@@ -1,0 +1,53 @@
+"""Assumes the contracts of the functions that a check of wrong bodies doesn't change.
+
+The prover takes of a call what the contract of the called function says, so it doesn't matter for a wrong body how that
+contract is proved. `rt ci` proves it, and to prove it again takes longer than to refuse the wrong bodies. So in a check
+of wrong bodies each other function has a proof that is a hole: `rt check --allow-holes` takes what the hole is to show
+as shown, and goes on to the goals of whoever calls the function.
+
+Some functions are still proved: a method of a trait's `impl`, one of a type at some arguments alone, and one that calls
+itself, since the folder of its proof or the form of it is another.
+"""
+
+import re
+
+from .copies import proof_folders
+
+PROOF = "use Rattle.{}.proofs.{}.Statement.{{statement}}\n\npub {}_spec : {{M : Type 1}} → statement M\n{}_spec = ?\n"
+# What is said of a function that is proved but for holes.
+HOLES = re.compile(r"^(fn (\S+)): (?:no holes|depends on a hole in .*)$", re.MULTILINE)
+# What is said of a function that calls one with a hole.
+CALLED = re.compile(r";? it calls (`[^;\n]*), which (?:is|are) not proved")
+
+
+def assumed(source, folder, wrong):
+    """The texts of the proof files of a crate in which the contracts of all functions but these are assumed. Where a
+    path has no text, its file is left out."""
+    kept, texts = {item.key() for item in wrong}, {}
+    for item in source.functions():
+        folders = [] if is_special(item) or item.key() in kept else proof_folders(item, source, folder)
+        if not folders or folders[0].with_name(f"+{item.name}").exists():
+            continue
+        own = folders[0]
+        for file in sorted(own.glob("*.antt")):
+            texts[str(file.relative_to(folder))] = None
+        steps = ".".join(own.relative_to(folder / "proofs").parts)
+        proof = PROOF.format(folder.name, steps, item.name, item.name)
+        texts[str((own / "Proof.antt").relative_to(folder))] = proof
+    return texts
+
+
+def is_special(item):
+    """Whether a function is a trait's, or of a type at some arguments alone."""
+    return bool(item.trait) or item.within.is_trait or item.within.is_instance
+
+
+def as_proved(said):
+    """What a check says where contracts are assumed, in the words of one in which they are proved."""
+    assumed_ones = {found[2] for found in HOLES.finditer(said)}
+
+    def calls(found):
+        named = set(re.findall(r"`([^`]+)`", found[1]))
+        return "" if named <= assumed_ones else found[0]
+
+    return CALLED.sub(calls, HOLES.sub(r"\1: proved", said))
