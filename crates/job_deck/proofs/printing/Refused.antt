@@ -11,8 +11,7 @@ use Rattle.sequential.specs.Replay.{LogStep, Issued, Exchanged, ReadAt, Wrote, I
 use Rattle.deck.specs.declared.deck.Deck.{Deck}
 use Rattle.deck.specs.declared.deck.Show.{Show}
 use Rattle.job_deck.specs.Listing.{is_write_failure}
-use Rattle.job_deck.specs.LogText.{log_in}
-use Rattle.job_deck.specs.Replaying.{Prints, Undefined, reached, replayed, replayed_steps}
+use Rattle.job_deck.specs.Replaying.{Prints, Undefined, reached, replayed_steps}
 
 unfit_is : (b : Bool) (j k : Refusal) → cond b None (Some j) ≡ Some k → k ≡ j
 unfit_is true j k h = cc

@@ -1,4 +1,3 @@
-use Rattle.std.proofs.Common.{◌≡◌, ◌∙◌, sym}
 use Rattle.std.proofs.lemmas.Result.{err_from_is_err_and}
 use Rattle.job_deck.proofs.sessions.Unbegun.{follows_unread}
 use Rattle.job_deck.proofs.replaying.replay_following_to.Goals as goal
