@@ -297,6 +297,7 @@ TOO_MANY_LINES = check("large", "MOST_LINES", "too_many")
 LONG_LINES = repeated("READ_OF_A_LINE", check("mutations", "{less}, {value}, {more}"))
 LARGEST_LOG = check("large", "following_logs", "[*entries, entry]")
 WAITS = asleep("endless", "the thread for requests at any time")
+LONG_ENTRY = test("text_tests/src/following_log_tests.rt", "E40 W777777=777777777777777777777 I1")
 BITS = nothing("it is a pattern of bits, and no limit")
 
 LIMITS = {
@@ -351,10 +352,10 @@ LIMITS = {
     ("deck/src/coding.rt", "ArrayVec<u16, "): check("mutations", "{less}, {value}, 256"),
     ("device_text/src/line.rt", "ArrayVec<u8, "): LONG_LINES,
     ("device_text/src/line.rt", "for _ in .."): LONG_LINES,
+    ("log_text/src/following_log.rt", "ArrayVec<u8, "): LONG_ENTRY,
+    ("log_text/src/following_log.rt", "for _ in .."): LONG_ENTRY,
     ("log_text/src/logs.rt", "exchanges: "): LARGEST_LOG,
     ("log_text/src/logs.rt", "accesses: "): LARGEST_LOG,
-    ("log_text/src/following_log.rt", "ArrayVec<u8, "): nothing("the longest entry has 28 bytes"),
-    ("log_text/src/following_log.rt", "for _ in .."): nothing("so many bytes have room in the buffer"),
     ("job_deck/src/dumping.rt", "for number in .."): nothing("there are eight X registers"),
     ("job_deck/src/listing.rt", "while parcel <"): nothing("a word has four parcels"),
     ("operator_terms/src/budget.rt", "LARGEST_BUDGET"): repeated(

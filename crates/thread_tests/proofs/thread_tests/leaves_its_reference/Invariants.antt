@@ -1,4 +1,4 @@
-use Rattle.thread_tests.proofs.thread_tests.leaves_a_later_reference.Given as goal
+use Rattle.thread_tests.proofs.thread_tests.leaves_its_reference.Given as goal
 
 -- the word that was just made
 abbrev pub ghosts-serve_increment : goal.ghosts-serve_increment
