@@ -42,6 +42,7 @@ from pathlib import Path
 from cdc6600.checks.debian import missing
 from cdc6600.shared.program import ROOT
 
+from .longest import Longest
 from .parts import BODIES, BUILDING, DECKS, SMALL, called, command
 
 RUNNER = "tools/wrong-bodies"
@@ -89,6 +90,7 @@ class Gate:
 
     def __init__(self):
         self.passed, self.failed, self.took, self.unsure = 0, 0, [], None
+        self.longest = Longest()
 
     def part(self, name, work):
         """Goes through a part, whose work gives what passed and what failed."""
@@ -99,7 +101,9 @@ class Gate:
         self.took.append((name, time.monotonic() - begun, processor_seconds() - used))
 
     def end(self):
-        """Prints the times and the count; the status."""
+        """Prints the longest checks, the times and the count; the status."""
+        for line in self.longest.end():
+            print(line)
         for name, seconds, used in self.took:
             print(f"{name}: {seconds / 60:.1f} minutes, {used / 60:.1f} of processors")
         if self.unsure is not None:
