@@ -139,7 +139,7 @@ def faults_of_table(program):
     faults += differing("tools/completions, the commands", dict(re.findall(r"^  (\w+)  +([A-Z].*)$", text, re.M)), said)
     for words, options in (([], ALONE), *(([it.name], it.all_options) for it in COMMANDS)):
         text = program.run([*words, "--help"]).printed.decode(errors="replace")
-        shown = re.findall(r"^ .*(--\w+)(?: <\w+>)?  +(.*?)(?: \[.*\])?$", text, re.MULTILINE)
+        shown = re.findall(r"^ .*(--[\w-]+)(?: <\w+>)?  +(.*?)(?: \[.*\])?$", text, re.MULTILINE)
         said = [(it.name, it.said) for it in options]
         faults += differing(" ".join(["tools/completions, the options of", NAME, *words]), shown, said)
     return faults
