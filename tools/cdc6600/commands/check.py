@@ -15,6 +15,7 @@ Exit status:
 """
 
 import ast
+import signal
 import subprocess
 import sys
 import textwrap
@@ -41,7 +42,9 @@ def text_of(name):
 
 
 def run_one(name, words):
-    """Runs a check in this process; its status."""
+    """Runs a check in this process; its status. A command that a shell starts in the background ignores interrupts, and
+    so would the commands that some checks interrupt."""
+    signal.signal(signal.SIGINT, signal.default_int_handler)
     sys.argv = [called(name), *words]
     return import_module(module(name)).main()
 
