@@ -1,6 +1,6 @@
 //! The commands `run` and `replay`. They read a deck, run it with threads or one instruction at a time, or replay a log
-//! on it. Then they print the machine's dump and return how the program ends. docs/use/formats.md has the texts and the
-//! numbers.
+//! on it: a text, or the line after the deck. Then they print the machine's dump and return how the program ends.
+//! docs/use/formats.md has the texts and the numbers.
 //!
 //! Callers rely on `run_deck` and `run_deck_sequentially`. Both print the dump of a state to which the dump's own log
 //! leads from boot with the deck's memory. The log leads there one instruction at a time, and has no more instructions

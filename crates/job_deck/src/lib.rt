@@ -1,6 +1,7 @@
 //! The texts of the machine. This crate prints memory, machines and logs, and replays logs. It also runs sessions: a
-//! schedule says a machine's events line by line, and the session answers each line. All texts are lines of bytes, in the
-//! formats of docs/use/formats.md. The crate re-exports the items for decks, logs and devices of the crates below it.
+//! schedule says a machine's events line by line, and the session answers each line. All texts are lines of bytes, in
+//! the formats of docs/use/formats.md. The crate re-exports the items for decks, logs and devices of the crates below
+//! it.
 //!
 //! Callers rely on `events`: it answers each line as `program_order` allows, before it reads the next line. The events
 //! of the lines and their printed answers lead from boot to the machine that `events` dumps. `dump` in `dumping` prints

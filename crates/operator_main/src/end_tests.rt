@@ -1,5 +1,5 @@
-//! Tests of the exit statuses of a machine that halts or faults. The decks and their dumps are those of decks/run, which
-//! were worked out without this program.
+//! Tests of the exit statuses of a machine that halts or faults. The decks and their dumps are those of decks/run,
+//! which were worked out without this program.
 
 use super::test_program::{Case, expect};
 use std::test::Fail;

@@ -5,7 +5,8 @@
 //! contract of `program` says what it does with its input, its output and its fault stream, and that the exit status
 //! matches that. It doesn't say which words make which request. If standard error is a terminal, `main` calls
 //! `program_at_terminal` instead, which also shows the position of the fault in a refused line. `main` buffers the
-//! output, so that printing a piece takes no system call. `progress` shows at a terminal that a long run is still going.
+//! output, so that printing a piece takes no system call. `progress` shows at a terminal that a long run is still
+//! going.
 //!
 //! Its tests call `program`. Their first table is `CASES` in `command_tests`: a call of each command with its whole
 //! output. `end_tests` has the exit statuses of machines that halt or fault, and `fault_tests` the fault lines. Begin

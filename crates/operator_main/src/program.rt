@@ -28,23 +28,20 @@ use std::thread::Threads;
 use std::time::Clock;
 
 /// The length of the longest fault line.
-const FAULT_LINE: usize = 47;
+const ONE_LINE: usize = 47;
 
 /// The length of the longest fault line that is followed by the line of a position.
-const FAULT_LINE_WITH_POSITION: usize = 237;
+const WITH_POSITION: usize = 237;
 
 /// The fault line.
-fn fault_line(fault: &ProgramFault) -> ArrayVec<u8, FAULT_LINE> {
+fn fault_line(fault: &ProgramFault) -> ArrayVec<u8, ONE_LINE> {
     let mut text = ArrayVec::new();
     let _ = writeln!(text, "cdc6600: {fault}");
     text
 }
 
 /// The fault line. If a line was refused, it is `line`, and a second line has the position of the fault in it.
-fn fault_line_with_position(
-    fault: &ProgramFault,
-    line: &[u8],
-) -> ArrayVec<u8, FAULT_LINE_WITH_POSITION> {
+fn fault_line_with_position(fault: &ProgramFault, line: &[u8]) -> ArrayVec<u8, WITH_POSITION> {
     let mut text = ArrayVec::new();
     let _ = writeln!(text, "cdc6600: {fault}");
     if let ProgramFault::Refused(Refusal::Deck { fault, .. }) = fault

@@ -367,8 +367,8 @@ LIMITS = {
     ("operator_main/src/progress.rt", "PROGRESS_LINE"): nothing(
         "the line has at most five digits, and 12 bytes beside them"
     ),
-    ("operator_main/src/program.rt", "FAULT_LINE"): nothing("the longest fault line has 47 bytes"),
-    ("operator_main/src/program.rt", "FAULT_LINE_WITH_POSITION"): nothing(
+    ("operator_main/src/program.rt", "ONE_LINE"): nothing("the longest fault line has 47 bytes"),
+    ("operator_main/src/program.rt", "WITH_POSITION"): nothing(
         "the longest fault line of a refused line has 40 bytes, and the longest line of a position 197"
     ),
     ("refused_line/src/position.rt", "MOST_SHOWN_BYTES"): named(
