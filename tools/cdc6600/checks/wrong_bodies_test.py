@@ -340,13 +340,25 @@ class Reading(unittest.TestCase):
         self.assertEqual(without(text, set()), text)
 
     def test_contracts_of_right_bodies_are_assumed(self):
-        texts = assumed(self.source, self.crate, self.body("adds_two").touched)
+        texts = assumed(self.source, self.crate, self.body("adds_two").touched, {"src/lib.rt": LIBRARY})
         proof = texts["proofs/two_more/Proof.antt"].split("\n")
         self.assertEqual(proof[0], "use Rattle.tiny.proofs.two_more.Statement.{statement}")
         self.assertEqual(proof[2:], ["pub two_more_spec : {M : Type 1} → statement M", "two_more_spec = ?", ""])
         self.assertIsNone(texts["proofs/two_more/Answers.antt"])
         self.assertIn("proofs/Few/with_another/Proof.antt", texts)
         self.assertFalse(any("plus_one" in path or "weight" in path for path in texts))
+        self.assertIn("    plus_one(plus_one(x))\n", LIBRARY)
+        self.assertNotIn("    plus_one(plus_one(x))\n", texts["src/lib.rt"])
+        self.assertIn("    // One more.\n    x + 1\n", texts["src/lib.rt"])
+
+    def test_right_bodies_do_nothing_beside_copies(self):
+        bodies = [self.body("adds_two"), self.body("larger_of_two")]
+        copies = [copy_of(body, f"wrong_{at}", self.source, self.crate) for at, body in enumerate(bodies)]
+        text = assumed(self.source, self.crate, [], beside(copies, self.source))["src/lib.rt"]
+        self.assertIn("    x + 2\n", text)
+        self.assertIn("{ b } else { a }\n", text)
+        self.assertNotIn("    x + 1\n", text)
+        self.assertNotIn("{ a } else { b }", text)
 
     def test_an_assumed_contract_counts_as_proved(self):
         hole = "depends on a hole in `Rattle.tiny.proofs.{0}.Proof.{0}_spec`"

@@ -1,15 +1,18 @@
 """Assumes the contracts of the functions that a check of wrong bodies doesn't change.
 
 The prover takes of a call what the contract of the called function says, so it doesn't matter for a wrong body how that
-contract is proved. `rt ci` proves it, and to prove it again takes longer than to refuse the wrong bodies. So in a check
-of wrong bodies each other function has a proof that is a hole: `rt check --allow-holes` takes what the hole is to show
-as shown, and goes on to the goals of whoever calls the function.
+contract is proved, nor what the called function does. `rt ci` proves it, and to prove it again takes longer than to
+refuse the wrong bodies. So in a check of wrong bodies each other function has a body that does nothing, and a proof
+that is a hole: `rt check --allow-holes` takes what the hole is to show as shown, and goes on to the goals of whoever
+calls the function.
 
 Some functions are still proved: a method of a trait's `impl`, one of a type at some arguments alone, and one that calls
 itself, since the folder of its proof or the form of it is another.
 """
 
 import re
+
+from cdc6600.crates.source import items_of
 
 from .copies import proof_folders
 
@@ -20,21 +23,33 @@ HOLES = re.compile(r"^(fn (\S+)): (?:no holes|depends on a hole in .*)$", re.MUL
 CALLED = re.compile(r";? it calls (`[^;\n]*), which (?:is|are) not proved")
 
 
-def assumed(source, folder, wrong):
-    """The texts of the proof files of a crate in which the contracts of all functions but these are assumed. Where a
-    path has no text, its file is left out."""
-    kept, texts = {item.key() for item in wrong}, {}
+def assumed(source, folder, wrong, texts):
+    """The texts of a crate in which the contracts of all functions but these are assumed, where it has these texts in
+    place of its own. Where a path has no text, its file is left out."""
+    kept, proofs, given = {item.key() for item in wrong}, {}, {}
     for item in source.functions():
         folders = [] if is_special(item) or item.key() in kept else proof_folders(item, source, folder)
         if not folders or folders[0].with_name(f"+{item.name}").exists():
             continue
-        own = folders[0]
-        for file in sorted(own.glob("*.antt")):
-            texts[str(file.relative_to(folder))] = None
+        own, closures = folders
+        for file in sorted([*own.glob("*.antt"), *closures.rglob("*.antt")]):
+            proofs[str(file.relative_to(folder))] = None
         steps = ".".join(own.relative_to(folder / "proofs").parts)
         proof = PROOF.format(folder.name, steps, item.name, item.name)
-        texts[str((own / "Proof.antt").relative_to(folder))] = proof
-    return texts
+        proofs[str((own / "Proof.antt").relative_to(folder))] = proof
+        given.setdefault(item.path, set()).add(item.key())
+    texts = proofs | texts
+    return texts | {path: without_bodies(path, texts.get(path, source.texts[path]), keys)
+                    for path, keys in given.items()}
+
+
+def without_bodies(path, text, keys):
+    """The text of a source in which the functions of these keys do nothing."""
+    lines = text.split("\n")
+    for item in reversed(items_of(path, text)):
+        if item.kind == "function" and item.key() in keys and item.size:
+            lines[item.body_start + 1 : item.last] = [f"{item.indentation}    unreachable!()"]
+    return "\n".join(lines)
 
 
 def is_special(item):

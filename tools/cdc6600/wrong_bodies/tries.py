@@ -272,7 +272,7 @@ class Tries:
         wrong, folder = [] if group.copies else group.functions(), self.table.folder(crate.name)
         files = [file for item in wrong for at in written_folders(item, folder) for file in at.glob("*.antt")]
         proofs = {str(file.relative_to(folder)): file.read_text(encoding="utf-8") for file in files}
-        texts = assumed(crate.source, folder, wrong) | texts
+        texts = assumed(crate.source, folder, wrong, texts)
         ran = workspace.check(texts, paths)
         if paths and ran.status == 2:
             # The check knows no function of such a path: then it proves all of the crate.
