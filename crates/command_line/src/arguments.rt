@@ -93,16 +93,25 @@ fn run_command<'a>(alloc: Global) -> Result<Command<'a>, AllocError> {
         .arg(budget_option(alloc))
 }
 
-/// The command `replay`.
-fn replay_command<'a>(alloc: Global) -> Result<Command<'a>, AllocError> {
-    let log = Arg::new(alloc, "LOG")
+/// The argument LOG of `replay`.
+fn log_argument<'a>(alloc: Global) -> Result<Arg<'a>, AllocError> {
+    Arg::new(alloc, "LOG")
+        .help("What the dump of a run has after LOG, as one argument")
         .required_unless_present("log-follows")?
-        .conflicts_with("log-follows")?
-        .help("What the dump of a run has after LOG, as one argument");
-    let log_follows = Arg::new(alloc, "log-follows")
+        .conflicts_with("log-follows")
+}
+
+/// The option `--log-follows` of `replay`.
+fn log_follows_option<'a>(alloc: Global) -> Arg<'a> {
+    Arg::new(alloc, "log-follows")
         .long("log-follows")
         .action(ArgAction::SetTrue)
-        .help("Reads the log from the line after the deck");
+        .help("Reads the log from the line after the deck")
+}
+
+/// The command `replay`.
+fn replay_command<'a>(alloc: Global) -> Result<Command<'a>, AllocError> {
+    let log = log_argument(alloc)?;
     Command::new(alloc, "replay")
         .about(
             "Goes through LOG on the deck on standard input, one instruction at a time, and prints the machine's dump",
@@ -110,7 +119,7 @@ fn replay_command<'a>(alloc: Global) -> Result<Command<'a>, AllocError> {
         .override_usage("cdc6600 replay LOG|--log-follows")
         .after_help(AFTER_REPLAY)
         .arg(log)?
-        .arg(log_follows)
+        .arg(log_follows_option(alloc))
 }
 
 /// The command `events`.
@@ -143,13 +152,20 @@ fn bare_program<'a>(alloc: Global) -> Command<'a> {
         .subcommand_required(true)
 }
 
+/// Adds a command to the program, if there was memory for that command.
+fn with_command<'a>(
+    program: Command<'a>,
+    command: Result<Command<'a>, AllocError>,
+) -> Result<Command<'a>, AllocError> {
+    program.subcommand(command?)
+}
+
 /// The whole command line of the program.
 fn accepted<'a>(alloc: Global) -> Result<Command<'a>, AllocError> {
-    bare_program(alloc)
-        .subcommand(run_command(alloc)?)?
-        .subcommand(replay_command(alloc)?)?
-        .subcommand(events_command(alloc)?)?
-        .subcommand(list_command(alloc))
+    let program = with_command(bare_program(alloc), run_command(alloc))?;
+    let program = with_command(program, replay_command(alloc))?;
+    let program = with_command(program, events_command(alloc))?;
+    program.subcommand(list_command(alloc))
 }
 
 /// The budget of a command. `clap` accepts only numbers that a budget may have.
@@ -186,15 +202,28 @@ fn asked_for<'a>(matches: &ArgMatches<'a>) -> Option<Request<'a>> {
     }
 }
 
+/// The error for words that `clap` accepted although they make no request.
+fn no_command(command: &mut Command<'_>) -> Error {
+    match command.error(ErrorKind::MissingSubcommand, "no such command") {
+        Ok(error) => error,
+        Err(failed) => Error::from(failed),
+    }
+}
+
+/// Parses the words of a command line with the program's `Command`.
+fn request_of<'a>(command: &mut Command<'a>, words: &'a [String]) -> Result<Request<'a>, Error> {
+    let matches = command.try_get_matches_from_mut(words)?;
+    match asked_for(&matches) {
+        Some(request) => Ok(request),
+        None => Err(no_command(command)),
+    }
+}
+
 /// Parses a command line without the program's name.
 ///
 /// # Errors
 /// Errors of `clap`: a refused command line, a request for help, or `OutOfMemory`.
 pub fn read_arguments<'a>(alloc: Global, words: &'a [String]) -> Result<Request<'a>, Error> {
     let mut command = accepted(alloc)?;
-    let matches = command.try_get_matches_from_mut(words)?;
-    match asked_for(&matches) {
-        Some(request) => Ok(request),
-        None => Err(command.error(ErrorKind::MissingSubcommand, "no such command")?),
-    }
+    request_of(&mut command, words)
 }
