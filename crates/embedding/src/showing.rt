@@ -1,20 +1,15 @@
 ghost use Rattle.std.specs.Prelude.{◌≡◌};
-ghost use Rattle.std.specs.List.{flat_map};
 ghost use Rattle.sequential.specs.Log.{entries_of};
-ghost use Rattle.device_text.specs.Putting.{Puts};
-ghost use Rattle.device_text.specs.Pieces.{text_of_all};
-ghost use Rattle.job_deck.specs.Dump.{dump_text, log_text, spaced_entry};
+ghost use Rattle.job_deck.specs.Dump.{dump_text};
 ghost use Rattle.embedding.specs.Keeping.{HandsOverText, IsDumped, IsLogged, after_space};
 
 use crate::booted::Booted;
 use crate::outcome::{NOT_DRAINED, Outcome, hand_over, silent};
 use crate::stepping::written_end;
-use device_text::{Piece, put_pieces};
 use instruction_table::Refusal;
-use job_deck::{CheckedWriter, Deck, Output, WriteFailed, dump_to};
+use job_deck::{CheckedWriter, Deck, dump_to, put_log};
 use machine::Snapshot;
 use operator_terms::ProgramFault;
-use sequential::Entry;
 use std::alloc::Global;
 
 /// Copies the dump of a snapshot to the caller.
@@ -51,58 +46,6 @@ pub fn show_dump(alloc: Global, booted: &Booted, output: &mut [u8], line: &mut [
             output,
             line,
         ),
-    }
-}
-
-/// A space and one entry of a log.
-fn spaced_entry(entry: Entry) -> [Piece<'static>; 4]
-    ensures { text_of_all result ≡ spaced_entry entry }
-{
-    match entry {
-        Entry::Exchange(address) => [
-            Piece::Text(b" E"),
-            Piece::Address(address),
-            Piece::Text(b""),
-            Piece::Text(b""),
-        ],
-        Entry::Issued(count) => [
-            Piece::Text(b" I"),
-            Piece::Count(count),
-            Piece::Text(b""),
-            Piece::Text(b""),
-        ],
-        Entry::PpRead(address) => [
-            Piece::Text(b" R"),
-            Piece::Address(address),
-            Piece::Text(b""),
-            Piece::Text(b""),
-        ],
-        Entry::PpWrite(address, word) => [
-            Piece::Text(b" W"),
-            Piece::Address(address),
-            Piece::Text(b"="),
-            Piece::ShortWord(word),
-        ],
-    }
-}
-
-/// Writes the entries of a log with a space before each.
-fn put_entries<O: Output>(output: &mut O, entries: &[Entry]) -> Result<(), WriteFailed>
-    ensures { Puts O.Output result output.old output.new (flat_map spaced_entry entries.now) }
-{
-    for entry in entries {
-        put_pieces(output, &spaced_entry(*entry))?;
-    }
-    Ok(())
-}
-
-/// Writes a space and the text of a log.
-fn put_log<O: Output>(output: &mut O, entries: &[Entry]) -> Result<(), WriteFailed>
-    ensures { Puts O.Output result output.old output.new (log_text entries.now) }
-{
-    match entries {
-        [] => output.put(b" none"),
-        _ => put_entries(output, entries),
     }
 }
 

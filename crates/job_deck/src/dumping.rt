@@ -240,7 +240,10 @@ fn put_entries<O: Output>(output: &mut O, entries: &[Entry]) -> Result<(), Write
 }
 
 /// Writes a space and the text of a log.
-fn put_log<O: Output>(output: &mut O, entries: &[Entry]) -> Result<(), WriteFailed>
+///
+/// # Errors
+/// Fails if a write fails. The output then has a prefix of the text.
+pub fn put_log<O: Output>(output: &mut O, entries: &[Entry]) -> Result<(), WriteFailed>
     ensures { Puts O.Output result output.old output.new (log_text entries.now) }
 {
     match entries {

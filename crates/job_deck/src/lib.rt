@@ -24,7 +24,7 @@ pub use device_text::{
     CheckedBufReader, CheckedReader, CheckedWriter, Input, LineBuffer, Output, ReadFailed,
     WriteFailed,
 };
-pub use dumping::{dump, dump_to};
+pub use dumping::{dump, dump_to, put_log};
 pub use listing::{list, list_to};
 pub use log_text::{read_log, read_log_from};
 pub use replaying::{replay, replay_following, replay_following_to, replay_to};
