@@ -121,6 +121,30 @@ fn finish<K: Naming, R: Wait>(
     }
 }
 
+/// Asks for the exchange that is due, unless another request waits.
+///
+/// # Errors
+/// Any other refusal of the request.
+fn ask_if_due<K: Naming>(
+    machine: &mut LockedMachine<K>,
+    seen: &mut Seen<K>,
+    pending: &mut PendingRequests<'_>,
+) -> Result<(), Refusal>
+    ensures onward { GoesOnFrom seen.old seen.new }
+{
+    let Some((at, _)) = pending.requests.due() else {
+        return Ok(());
+    };
+    match machine.ask(seen, at) {
+        Ok(()) => {
+            let _ = pending.requests.take_due();
+            Ok(())
+        }
+        Err(Refusal::ExchangeBusy) => Ok(()),
+        refused => refused,
+    }
+}
+
 /// Issues until an issue is refused. Before each issue it asks for the exchange that is due, unless another request
 /// waits. Returns the refusal, or `None` if the notes are full or so many instructions were issued that other threads
 /// may want the lock.
@@ -136,15 +160,7 @@ fn issue_on<K: Naming>(
     ensures onward { GoesOnFrom seen.old seen.new }
 {
     for _ in 0..ISSUES_OF_A_HOLD {
-        if let Some((at, _)) = pending.requests.due() {
-            match machine.ask(seen, at) {
-                Err(Refusal::ExchangeBusy) => {}
-                asked => {
-                    asked?;
-                    let _ = pending.requests.take_due();
-                }
-            }
-        }
+        ask_if_due(machine, seen, pending)?;
         match machine.issue(seen) {
             Ok(note) => {
                 pending.requests.issued();
@@ -226,7 +242,7 @@ pub fn conduct<K: Naming, R: Threads + Wait + Clock>(
     rt: &R,
     shared: &Shared<K>,
     seen: &mut Seen<K>,
-    mut pending: PendingRequests<'_>,
+    pending: &mut PendingRequests<'_>,
     lanes: &mut WorkerLanes<'_>,
 ) -> Result<(), Refusal>
     ensures onward { GoesOnFrom seen.old seen.new }
@@ -236,7 +252,7 @@ pub fn conduct<K: Naming, R: Threads + Wait + Clock>(
     let mut pace = Pace::new(signals, thread::available_parallelism(rt).ok());
     for _ in rt.forever() {
         let count = signals.issuing.count();
-        match step(rt, shared, seen, &mut pending, lanes)? {
+        match step(rt, shared, seen, pending, lanes)? {
             Next::GoesOn => {}
             Next::Waits => {
                 wait.until_raised(rt, &signals.issuing, count);

@@ -146,7 +146,7 @@ fn run_in<
 {
     let Tasks {
         gates,
-        pending,
+        mut pending,
         mut seen,
         other,
     } = tasks;
@@ -154,8 +154,9 @@ fn run_in<
     let mut lanes = WorkerLanes::start(scope, rt, shared, ends, holders, gates);
     let storing = scope.spawn(move || storage_worker(rt, shared)).ok();
     let asking = scope.spawn(move || ask_all(rt, shared, other, free)).ok();
-    let conducted = if lanes.are_served() && storing.is_some() && asking.is_some() {
-        conduct(rt, shared, &mut seen, pending, &mut lanes)
+    let are_started = [lanes.are_served(), storing.is_some(), asking.is_some()] == [true; 3];
+    let conducted = if are_started {
+        conduct(rt, shared, &mut seen, &mut pending, &mut lanes)
     } else {
         Err(Refusal::OutOfMemory)
     };
