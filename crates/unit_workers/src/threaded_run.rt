@@ -1,11 +1,11 @@
 //! A whole run by threads.
-ghost use Rattle.std.specs.Prelude.{◌≡◌, ◌≤◌, [], ◌∷◌, ◌++◌, true, IfOk, IfSome, OnOk, Ok, map};
+ghost use Rattle.std.specs.Prelude.{◌≡◌, ◌≤◌, [], ◌∷◌, ◌++◌, true, IfOk, IfSome, OnOk, Ok, Some, map};
 ghost use Rattle.exchange_requests.specs.Fulfilled.{IsFulfilled};
 ghost use Rattle.sequential_run.specs.Turns.{is_in_mid_word};
 ghost use Rattle.sequential.specs.Log.{issued};
 ghost use Rattle.sequential.specs.Replay.{Exchanged};
 ghost use Rattle.progress_word.specs.CallerKnowledge.{booted_by, known, StartsWith};
-ghost use Rattle.unit_workers.specs.Beginning.{IsAtRest};
+ghost use Rattle.unit_workers.specs.Beginning.{IsAtRest, Begins};
 ghost use Rattle.unit_workers.specs.Ending.{is_at_end};
 ghost use Rattle.unit_workers.specs.Onward.{EndsFrom};
 ghost use Rattle.instructions.specs.PerUnit.{Each, in_order, paired};
@@ -26,7 +26,7 @@ use std::sync::Wait;
 use std::thread;
 use std::thread::{Scope, Threads};
 use std::time::Clock;
-use unit_queue::SendPass;
+use unit_queue::{Lane, SendPass};
 use worker_loops::{Gate, Gates, Tally, storage_worker};
 
 /// The orders for a run by threads: the package with which the run starts, and the exchanges to ask for.
@@ -76,14 +76,28 @@ fn closing<K: Naming, R: Wait>(
 ) -> Result<machine::Snapshot, Refusal>
     ensures onward { IfOk result (λ snapshot. EndsFrom seen snapshot) }
 {
-    conducted?;
-    let mut other = asked?;
+    let mut other = conducted.and(asked)?;
     shared.meet(&mut seen, &mut other);
     let snapshot = shared.snapshot(rt, &mut seen)?;
     if !is_at_end(&snapshot) {
         return Err(Refusal::NotDrained);
     }
     Ok(snapshot)
+}
+
+/// Returns both values, if both are there. It is generic because a value of a type parameter is dropped in one call,
+/// which is cheaper to prove than a call for each part of a struct.
+///
+/// # Errors
+/// The refusal, if there is one. `OutOfMemory` if the other value is missing.
+fn both<A: Drop, B: Drop>(one: Result<A, Refusal>, other: Option<B>) -> Result<(A, B), Refusal>
+    ensures { IfOk result (λ both. (one ≡ Ok both.0) × (other ≡ Some both.1)) }
+{
+    let one = one?;
+    match other {
+        Some(other) => Ok((one, other)),
+        None => Err(Refusal::OutOfMemory),
+    }
 }
 
 /// Combines a snapshot and the tallies into the outcome of a run.
@@ -98,14 +112,10 @@ fn with_tallies(
         (paired in_use ended.0) ended.1) }
     ensures snapshot { IfOk result (λ ended. snapshot ≡ Ok ended.snapshot) }
 {
-    let snapshot = snapshot?;
-    let Some((sent, tallies)) = settled else {
-        return Err(Refusal::OutOfMemory);
-    };
-    let tallies = tallies.into_array();
+    let (snapshot, (sent, tallies)) = both(snapshot, settled)?;
     Ok(Ended {
         snapshot,
-        tallies,
+        tallies: tallies.into_array(),
         sent,
     })
 }
@@ -173,7 +183,7 @@ fn run_in<
     with_tallies(closing(rt, shared, conducted, asked, seen), settled)
 }
 
-/// Creates the lanes, and runs.
+/// Creates the lanes in their holders, and runs.
 ///
 /// # Errors
 /// Any refusal of the machine. `OutOfMemory` if memory runs out or a thread can't be started.
@@ -181,13 +191,13 @@ fn run_lanes<K: Naming + Send + Sync, G: Gate + Send, R: Threads + Wait + Clock 
     rt: &R,
     alloc: Global,
     shared: &Shared<K>,
+    lanes: &mut PerUnit<Option<Lane>>,
     holders: &mut PerUnit<Option<Seat>>,
     tasks: Tasks<'_, K, G>,
 ) -> Result<Ended, Refusal>
     ensures onward { IfOk result (λ ended. EndsFrom tasks.entry.seen ended.snapshot) }
 {
-    let mut lanes = PerUnit::default();
-    let Some(ends) = open_lanes(alloc, &mut lanes) else {
+    let Some(ends) = open_lanes(alloc, lanes) else {
         return Err(Refusal::OutOfMemory);
     };
     thread::scope(
@@ -200,7 +210,7 @@ fn run_lanes<K: Naming + Send + Sync, G: Gate + Send, R: Threads + Wait + Clock 
 }
 
 /// Splits what was seen first, so that each of the two threads that ask for exchanges has a `Seen` of its own, and
-/// runs.
+/// runs on new lanes.
 ///
 /// # Errors
 /// Any refusal of the machine. `OutOfMemory` if memory runs out or a thread can't be started.
@@ -222,7 +232,11 @@ fn run_from_first<K: Naming + Send + Sync, G: Gate + Send, R: Threads + Wait + C
         seen,
         other,
     };
-    run_lanes(rt, alloc, shared, holders, tasks)
+    let mut lanes = PerUnit::default();
+    let ended = run_lanes(rt, alloc, shared, &mut lanes, holders, tasks);
+    // One call, where the end of the scope would drop the lanes one by one.
+    drop(lanes);
+    ended
 }
 
 /// Runs a machine with a progress word.
@@ -245,6 +259,8 @@ fn run_beside<K: Naming + Send + Sync, G: Gate + Send, R: Threads + Wait + Clock
     let mut holders = PerUnit::from_array(seats).map(|seat| Some(seat));
     let ended = run_from_first(rt, alloc, &shared, &mut holders, gates, pending, seen);
     let _ = holders.map(leave);
+    // One call, where the end of the scope would drop each part.
+    drop(shared);
     ended
 }
 
@@ -253,6 +269,26 @@ fn leave(holder: Option<Seat>) {
     if let Some(seat) = holder {
         seat.leave();
     }
+}
+
+/// Begins the run of a machine, and creates what the run needs: its requests and its progress word. Returns first
+/// whether the machine's log begins with the first exchange.
+///
+/// # Errors
+/// Any refusal of the first exchange. `OutOfMemory` if memory runs out.
+fn prepare(
+    alloc: Global,
+    machine: &mut Machine,
+    orders: &Orders,
+) -> Result<(bool, Requests, Ground), Refusal>
+    ensures { IfOk result (λ ready. Begins ready.0 orders.now.start machine.old machine.new) }
+{
+    let ground = Ground::new(alloc)?;
+    let Ok(mut requests) = Requests::new(alloc, orders.start, orders.after.as_slice()) else {
+        return Err(Refusal::OutOfMemory);
+    };
+    let is_whole = begin(machine, orders.start, &mut requests)?;
+    Ok((is_whole, requests, ground))
 }
 
 /// Checks that a run fulfils its requests for exchanges, if its log begins with the exchange for the first package.
@@ -326,16 +362,18 @@ pub fn run_threads<G: Gate + Send, R: Threads + Wait + Clock + Sync>(
         → IsFulfilled orders.now.start orders.now.after.items orders.now.free.items
         (is_in_mid_word ended.snapshot.state) ended.snapshot.log) }
 {
-    let Ok(mut requests) = Requests::new(alloc, orders.start, orders.after.as_slice()) else {
-        return Err(Refusal::OutOfMemory);
-    };
-    let ground = Ground::new(alloc)?;
-    let free = FreeRequests::new(orders.free.as_slice());
     let mut machine = machine;
     machine.drain();
-    let is_whole = begin(&mut machine, orders.start, &mut requests)?;
+    let (is_whole, requests, ground) = prepare(alloc, &mut machine, orders)?;
+    let free = FreeRequests::new(orders.free.as_slice());
     let pending = PendingRequests::new(requests, &free);
     let ended = run_beside::<Brand, _, _>(rt, alloc, ground, machine, gates, pending)?;
-    hold_to_requests(alloc, is_whole, orders, &ended.snapshot)?;
-    Ok(ended)
+    match hold_to_requests(alloc, is_whole, orders, &ended.snapshot) {
+        Ok(()) => Ok(ended),
+        Err(refusal) => {
+            // One call, where the end of the scope would drop each part.
+            drop(ended);
+            Err(refusal)
+        }
+    }
 }

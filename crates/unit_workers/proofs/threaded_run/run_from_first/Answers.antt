@@ -8,7 +8,7 @@ use Rattle.unit_workers.proofs.threaded_run.run_from_first.Goals as goal
 -- what is split is what was seen first
 pub returns : goal.returns
 returns g c = record {
-  onward = ok_through (λ (e : Ended). e.snapshot) c.args.seen c.split.new.self c.run_lanes.result
+  onward = ok_through (λ (e : Ended). e.snapshot) c.args.seen c.split.new.self c.run_lanes-ended.result
       (subst (λ (k : Known). GoesOnFrom c.args.seen k) (sym c.in_ok-other.ensures.same) (at_first c.args.seen))
-      c.run_lanes.ensures.onward;
+      c.run_lanes-ended.ensures.onward;
 }
