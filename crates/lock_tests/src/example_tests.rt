@@ -9,7 +9,6 @@ use machine_lock::{Ground, Naming, Seen, Shared};
 use sequential::Entry;
 use std::alloc::Global;
 use std::marker::Brand;
-use std::process::Abort;
 use std::sync::Wait;
 use std::test::Fail;
 use std::thread::{Threads, join};
@@ -70,26 +69,29 @@ fn issue_by_two<K: Naming + Send + Sync, R: Threads + Wait + Sync>(
 }
 
 /// After the first exchange, each of two threads issues two of four passes.
-fn two_threads<K: Naming + Send + Sync, R: Threads + Wait + Sync + Abort>(
+fn two_threads<K: Naming + Send + Sync, R: Threads + Wait + Sync>(
     rt: &R,
     alloc: Global,
     ground: Ground,
     machine: Machine,
-) -> Result<(), Fail>
+) -> Result<([Twice; 2], Snapshot), Refusal>
     requires { ground ≡ K.table }
 {
     let (shared, seats, seen) = Shared::<K>::open(alloc, ground, machine)?;
     leave_all(seats);
-    let (answers, snapshot) = issue_by_two(rt, &shared, seen)?;
-    let is_logged = snapshot.log().entries()
-        == [Entry::Exchange(0o40), Entry::Issued(4)].as_slice();
-    assert!(rt; answers == [[Ok(None), Ok(None)], [Ok(None), Ok(None)]] && is_logged);
-    Ok(())
+    issue_by_two(rt, &shared, seen)
+}
+
+/// Whether the snapshot has the exchange and all four issues.
+fn has_all(snapshot: &Snapshot) -> bool {
+    snapshot.log().entries() == [Entry::Exchange(0o40), Entry::Issued(4)].as_slice()
 }
 
 #[test]
 fn two_threads_meet(rt: HostRuntime) -> Result<(), Fail> {
     let machine = booted(rt.alloc(), &[(0o100, "46000460004600046000")])?;
     let ground = Ground::new(rt.alloc())?;
-    two_threads::<Brand, _>(&rt, rt.alloc(), ground, machine)
+    let (answers, snapshot) = two_threads::<Brand, _>(&rt, rt.alloc(), ground, machine)?;
+    assert!(rt; answers == [[Ok(None), Ok(None)], [Ok(None), Ok(None)]] && has_all(&snapshot));
+    Ok(())
 }

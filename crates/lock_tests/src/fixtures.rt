@@ -1,10 +1,7 @@
 //! Words, booted machines, notes, seats and log entries that the tests share.
 
-ghost use Rattle.std.specs.Prelude.{◌≡◌};
-
-use instruction_table::{Digit, Refusal, Reg, Unit};
+use instruction_table::{Digit, PerUnit, Refusal, Reg, Unit};
 use machine::{Machine, Note, Seat};
-use machine_lock::{Ground, Naming, Seen, Shared};
 use relocation::Storage;
 use sequential::Entry;
 use std::alloc::Global;
@@ -67,46 +64,11 @@ pub fn leave(seat: Seat) -> (Unit, u64) {
 
 /// Gives up all seats. Returns the unit and the count of each seat.
 pub fn leave_all(seats: [Seat; 7]) -> [(Unit, u64); 7] {
-    let [
-        branch,
-        boolean,
-        shift,
-        long_add,
-        divide,
-        increment1,
-        increment2,
-    ] = seats;
-    [
-        leave(branch),
-        leave(boolean),
-        leave(shift),
-        leave(long_add),
-        leave(divide),
-        leave(increment1),
-        leave(increment2),
-    ]
+    PerUnit::from_array(seats).map(leave).into_array()
 }
 
-/// Whether a holder is empty. A seat in the holder is given up.
-pub fn is_empty(holder: Option<Seat>) -> bool {
-    match holder {
-        None => true,
-        Some(seat) => {
-            seat.leave();
-            false
-        }
-    }
-}
-
-/// A machine under its lock, with the seat of Increment1. The other seats are given up.
-pub fn opened<K: Naming>(
-    alloc: Global,
-    ground: Ground,
-    machine: Machine,
-) -> Result<(Shared<K>, Seat, Seen<K>), Refusal>
-    requires { ground ≡ K.table }
-{
-    let (shared, seats, seen) = Shared::<K>::open(alloc, ground, machine)?;
+/// The seats of Increment1 and Increment2. The other seats are given up.
+pub fn of_increments(seats: [Seat; 7]) -> (Seat, Seat) {
     let [
         branch,
         boolean,
@@ -121,8 +83,25 @@ pub fn opened<K: Naming>(
     shift.leave();
     long_add.leave();
     divide.leave();
+    (increment1, increment2)
+}
+
+/// The seat of Increment1. The other seats are given up.
+pub fn of_increment1(seats: [Seat; 7]) -> Seat {
+    let (increment1, increment2) = of_increments(seats);
     increment2.leave();
-    Ok((shared, increment1, seen))
+    increment1
+}
+
+/// Whether a holder is empty. A seat in the holder is given up.
+pub fn is_empty(holder: Option<Seat>) -> bool {
+    match holder {
+        None => true,
+        Some(seat) => {
+            seat.leave();
+            false
+        }
+    }
 }
 
 /// The answer of an issue.

@@ -1,14 +1,11 @@
 //! Several events in one hold of the lock, with no other event between them.
 
-ghost use Rattle.std.specs.Prelude.{◌≡◌};
-
-use crate::fixtures::{Issued, booted_over, note, word, x};
-use crate::lock_tests::{issued, of_increments, serve, start};
+use crate::fixtures::{Issued, booted_over, note, of_increments, word, x};
+use crate::lock_tests::{issued, serve, start};
+use crate::scenario::{Scenario, play};
 use instruction_table::{Refusal, Unit};
-use machine::{Loaded, Machine, Seat};
-use machine_lock::{Ground, LockedMachine, Naming, Seen, Shared};
-use std::alloc::Global;
-use std::marker::Brand;
+use machine::{Loaded, Seat};
+use machine_lock::{LockedMachine, Naming, Seen, Shared};
 use std::sync::Wait;
 use std::test::Fail;
 use word60::Word60;
@@ -64,8 +61,13 @@ fn end<K: Naming>(machine: &mut LockedMachine<K>, loaded: Result<Loaded, Seat>) 
     (seat.leave(), (events, machine.drained()))
 }
 
-/// All these answers, and X1 and X2 after the other instruction was served too.
-type Held = (Begun, (u64, Ended), Option<[Word60; 2]>);
+/// The answer of the start, all these answers, and X1 and X2 after the other instruction was served too.
+type Held = (
+    Result<(), Refusal>,
+    Begun,
+    (u64, Ended),
+    Option<[Word60; 2]>,
+);
 
 /// X1 and X2 of a drained machine.
 fn registers<K: Naming, R: Wait>(
@@ -78,28 +80,31 @@ fn registers<K: Naming, R: Wait>(
     Some([registers.get(x(1)), registers.get(x(2))])
 }
 
-fn made<K: Naming, R: Wait>(
-    rt: &R,
-    alloc: Global,
-    ground: Ground,
-    machine: Machine,
-) -> Result<Held, Refusal>
-    requires { ground ≡ K.table }
-{
-    let (shared, seats, mut seen) = Shared::<K>::open(alloc, ground, machine)?;
-    let (first, second) = of_increments(seats);
-    let started = start(rt, &shared, &mut seen);
-    let mut machine = shared.lock(rt);
-    let (begun, loaded) = begin(&mut machine, &mut seen, first);
-    shared.release(machine);
-    let mut machine = shared.lock(rt);
-    let ended = end(&mut machine, loaded);
-    shared.release(machine);
-    let (second, _) = serve(rt, &shared, second, note(Unit::Increment2, 2));
-    second.leave();
-    started?;
-    let at_end = registers(rt, &shared, &mut seen);
-    Ok((begun, ended, at_end))
+/// Two holds of the lock, and the service of the second instruction after them.
+struct TwoHolds;
+
+impl Scenario for TwoHolds {
+    type Outcome = Held;
+
+    fn play<K: Naming, R: Wait>(
+        &self,
+        rt: &R,
+        shared: &Shared<K>,
+        seats: [Seat; 7],
+        seen: &mut Seen<K>,
+    ) -> Held {
+        let (first, second) = of_increments(seats);
+        let started = start(rt, shared, seen);
+        let mut machine = shared.lock(rt);
+        let (begun, loaded) = begin(&mut machine, seen, first);
+        shared.release(machine);
+        let mut machine = shared.lock(rt);
+        let ended = end(&mut machine, loaded);
+        shared.release(machine);
+        let (second, _) = serve(rt, shared, second, note(Unit::Increment2, 2));
+        second.leave();
+        (started, begun, ended, registers(rt, shared, seen))
+    }
 }
 
 /// Two issues, a request and a read are made in one hold of the lock. In a second hold, the result is stored and its
@@ -107,11 +112,10 @@ fn made<K: Naming, R: Wait>(
 #[test]
 fn holds_the_lock(rt: HostRuntime) -> Result<(), Fail> {
     let machine = booted_over(rt.alloc(), &[(0o100, LOADS)], &[(0o110, "7")])?;
-    let ground = Ground::new(rt.alloc())?;
-    let held = made::<Brand, _>(&rt, rt.alloc(), ground, machine)?;
+    let held = play(&rt, rt.alloc(), machine, &TwoHolds)?;
     let issues = [issued(Unit::Increment1, 1), issued(Unit::Increment2, 2)];
     let ended = (1, ([Ok(()), Ok(()), Ok(())], false));
-    let wanted = ((issues, Ok(())), ended, Some([word("7"), word("3")]));
-    assert!(rt; held == wanted);
+    let at_end = Some([word("7"), word("3")]);
+    assert!(rt; held == (Ok(()), (issues, Ok(())), ended, at_end));
     Ok(())
 }

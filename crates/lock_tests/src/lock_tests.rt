@@ -3,7 +3,10 @@
 ghost use Rattle.std.specs.Prelude.{◌≡◌, IfOk};
 ghost use Rattle.progress_word.specs.CallerKnowledge.{StartsWith};
 
-use crate::fixtures::{FIRST, Issued, SECOND, booted, is_empty, leave, leave_all, note, word, x};
+use crate::fixtures::{
+    FIRST, Issued, SECOND, booted, is_empty, leave, leave_all, note, of_increments, word, x,
+};
+use crate::scenario::{Scenario, play};
 use instruction_table::{Refusal, Unit};
 use machine::{Computed, Finished, Loaded, Machine, Note, Reserved, Seat, Snapshot};
 use machine_lock::{Ground, Naming, Seen, Shared};
@@ -33,25 +36,6 @@ pub(crate) fn start<K: Naming, R: Wait>(
 ) -> Result<(), Refusal> {
     shared.ask(rt, seen, 0o40)?;
     shared.exchange(rt, seen)
-}
-
-/// The seats of Increment1 and Increment2. The other seats are given up.
-pub(crate) fn of_increments(seats: [Seat; 7]) -> (Seat, Seat) {
-    let [
-        branch,
-        boolean,
-        shift,
-        long_add,
-        divide,
-        increment1,
-        increment2,
-    ] = seats;
-    branch.leave();
-    boolean.leave();
-    shift.leave();
-    long_add.leave();
-    divide.leave();
-    (increment1, increment2)
 }
 
 /// Claims a reservation. Returns the seat if the claim is refused.
@@ -140,22 +124,21 @@ fn shows<K: Naming, R: Wait>(
         && snapshot.log().entries() == [Entry::Exchange(0o40), Entry::Issued(issues)].as_slice()
 }
 
-/// The units and counts of the seats that a machine is opened with, or the refusal.
-fn opened<K: Naming>(
-    alloc: Global,
-    ground: Ground,
-    machine: Machine,
-) -> Result<[(Unit, u64); 7], Refusal>
-    requires { ground ≡ K.table }
-{
-    let (_, seats, _) = Shared::<K>::open(alloc, ground, machine)?;
-    Ok(leave_all(seats))
-}
+/// The outcome is the unit and the count of each seat. All seats are given up.
+struct AllSeats;
 
-/// The same, with a progress word of its own.
-fn opened_anew(alloc: Global, machine: Machine) -> Result<[(Unit, u64); 7], Refusal> {
-    let ground = Ground::new(alloc)?;
-    opened::<Brand>(alloc, ground, machine)
+impl Scenario for AllSeats {
+    type Outcome = [(Unit, u64); 7];
+
+    fn play<K: Naming, R: Wait>(
+        &self,
+        _rt: &R,
+        _shared: &Shared<K>,
+        seats: [Seat; 7],
+        _seen: &mut Seen<K>,
+    ) -> [(Unit, u64); 7] {
+        leave_all(seats)
+    }
 }
 
 /// A machine under its lock that no thread serves: all seats are given up.
@@ -196,9 +179,10 @@ fn opening(rt: HostRuntime) -> Result<(), Fail> {
         (Unit::Increment1, 0),
         (Unit::Increment2, 0),
     ];
-    assert!(rt; opened_anew(rt.alloc(), fresh) == Ok(units));
-    assert!(rt; gives_seats(&mut given));
-    assert!(rt; opened_anew(rt.alloc(), given) == Err(Refusal::Nothing));
+    let opened = play(&rt, rt.alloc(), fresh, &AllSeats);
+    let was_given = gives_seats(&mut given);
+    let again = play(&rt, rt.alloc(), given, &AllSeats);
+    assert!(rt; opened == Ok(units) && was_given && again == Err(Refusal::Nothing));
     Ok(())
 }
 
@@ -239,8 +223,7 @@ fn strange_claims<K: Naming, R: Wait>(
 #[test]
 fn claims_of_strangers(rt: HostRuntime) -> Result<(), Fail> {
     let machine = booted(rt.alloc(), &[(0o100, FIRST), (0o101, SECOND)])?;
-    let ground = Ground::new(rt.alloc())?;
-    let claimed = claims_of_strangers_in::<Brand, _>(&rt, rt.alloc(), ground, machine)?;
+    let claimed = play(&rt, rt.alloc(), machine, &ClaimsOfStrangers)?;
     let notes = [issued(Unit::Increment1, 1), issued(Unit::Increment2, 2)];
     let counts = [(Unit::Increment1, 1), (Unit::Increment2, 1)];
     assert_eq!(rt;
@@ -262,41 +245,38 @@ type Claimed = (
     bool,
 );
 
-fn claims_of_strangers_in<K: Naming, R: Wait>(
-    rt: &R,
-    alloc: Global,
-    ground: Ground,
-    machine: Machine,
-) -> Result<Claimed, Refusal>
-    requires { ground ≡ K.table }
-{
-    let (shared, seats, mut seen) = Shared::<K>::open(alloc, ground, machine)?;
-    let (increment1, increment2) = of_increments(seats);
-    let started = start(rt, &shared, &mut seen);
-    let first = shared.issue(rt, &mut seen);
-    let second = shared.issue(rt, &mut seen);
-    let own = note(Unit::Increment1, 1);
-    let other = note(Unit::Increment2, 2);
-    let never = [
-        note(Unit::Increment1, 0),
-        note(Unit::Increment1, u64::MAX),
-        other,
-    ];
-    let (increment1, never) = strange_claims(rt, &shared, increment1, &never);
-    let (increment1, is_first_stored) = serve(rt, &shared, increment1, own);
-    let (increment1, stored) = strange_claims(rt, &shared, increment1, &[own, other]);
-    let (increment2, is_second_stored) = serve(rt, &shared, increment2, other);
-    let counts = [leave(increment1), leave(increment2)];
-    let shown = shows(rt, &shared, &mut seen, "5", "3", 2);
-    let are_stored = [is_first_stored, is_second_stored];
-    Ok((
-        started,
-        [first, second],
-        [never, stored],
-        are_stored,
-        counts,
-        shown,
-    ))
+/// Strangers' claims with the seat of Increment1, before and after its own note is stored.
+struct ClaimsOfStrangers;
+
+impl Scenario for ClaimsOfStrangers {
+    type Outcome = Claimed;
+
+    fn play<K: Naming, R: Wait>(
+        &self,
+        rt: &R,
+        shared: &Shared<K>,
+        seats: [Seat; 7],
+        seen: &mut Seen<K>,
+    ) -> Claimed {
+        let (increment1, increment2) = of_increments(seats);
+        let started = start(rt, shared, seen);
+        let issues = [shared.issue(rt, seen), shared.issue(rt, seen)];
+        let own = note(Unit::Increment1, 1);
+        let other = note(Unit::Increment2, 2);
+        let never = [
+            note(Unit::Increment1, 0),
+            note(Unit::Increment1, u64::MAX),
+            other,
+        ];
+        let (increment1, never) = strange_claims(rt, shared, increment1, &never);
+        let (increment1, is_first_stored) = serve(rt, shared, increment1, own);
+        let (increment1, stored) = strange_claims(rt, shared, increment1, &[own, other]);
+        let (increment2, is_second_stored) = serve(rt, shared, increment2, other);
+        let counts = [leave(increment1), leave(increment2)];
+        let shown = shows(rt, shared, seen, "5", "3", 2);
+        let are_stored = [is_first_stored, is_second_stored];
+        (started, issues, [never, stored], are_stored, counts, shown)
+    }
 }
 
 /// The token, if its read is refused as a stranger's; otherwise the seat.
@@ -373,9 +353,9 @@ fn serve_beside<K: Naming, J: Naming, R: Wait>(
 /// nothing. With what comes back, the reservation is taken to its end.
 #[test]
 fn strangers(rt: HostRuntime) -> Result<(), Fail> {
-    let machine = booted(rt.alloc(), &[(0o100, FIVE)])?;
-    let ground = Ground::new(rt.alloc())?;
-    let strange = strangers_of::<Brand, _>(&rt, rt.alloc(), ground, machine)?;
+    let (own, ground) = five(rt.alloc())?;
+    let (idle, other_ground) = five(rt.alloc())?;
+    let strange = strangers_of::<Brand, _>(&rt, rt.alloc(), ground, own, other_ground, idle)?;
     let first = issued(Unit::Increment1, 1);
     assert!(rt; strange == (Ok(()), first, Some(Refusal::Stranger), true, 1, true));
     Ok(())
@@ -392,25 +372,26 @@ type Strange = (
     bool,
 );
 
-/// A machine that is to issue nothing, with a progress word of its own.
-fn idle(alloc: Global) -> Result<(Machine, Ground), Refusal> {
+/// A machine that begins with `FIVE`, and its progress word.
+fn five(alloc: Global) -> Result<(Machine, Ground), Refusal> {
     let machine = booted(alloc, &[(0o100, FIVE)])?;
     let ground = Ground::new(alloc)?;
     Ok((machine, ground))
 }
 
-/// The first machine has the progress word that K names.
+/// The first machine has the progress word that K names. The second one is to issue nothing.
 fn strangers_of<K: Naming, R: Wait>(
     rt: &R,
     alloc: Global,
     ground: Ground,
     machine: Machine,
+    other_ground: Ground,
+    idle: Machine,
 ) -> Result<Strange, Refusal>
     requires { ground ≡ K.table }
 {
-    let (idle, other_ground) = idle(alloc)?;
-    let (own, seats, seen) = Shared::<K>::open(alloc, ground, machine)?;
-    strangers_beside::<K, Brand, _>(rt, alloc, &own, seats, seen, other_ground, idle)
+    let (own, seats, mut seen) = Shared::<K>::open(alloc, ground, machine)?;
+    strangers_beside::<K, Brand, _>(rt, alloc, &own, seats, &mut seen, other_ground, idle)
 }
 
 /// The second machine has the progress word that J names.
@@ -419,7 +400,7 @@ fn strangers_beside<K: Naming, J: Naming, R: Wait>(
     alloc: Global,
     own: &Shared<K>,
     seats: [Seat; 7],
-    mut seen: Seen<K>,
+    seen: &mut Seen<K>,
     ground: Ground,
     idle: Machine,
 ) -> Result<Strange, Refusal>
@@ -427,14 +408,13 @@ fn strangers_beside<K: Naming, J: Naming, R: Wait>(
 {
     let (increment1, increment2) = of_increments(seats);
     increment2.leave();
-    let other: Shared<J> = match unserved(alloc, ground, idle) {
-        Ok(other) => other,
+    match unserved::<J>(alloc, ground, idle) {
+        Ok(other) => Ok(strange_to(rt, own, &other, increment1, seen)),
         Err(refusal) => {
             increment1.leave();
-            return Err(refusal);
+            Err(refusal)
         }
-    };
-    Ok(strange_to(rt, own, &other, increment1, &mut seen))
+    }
 }
 
 /// The calls on the first machine, with the second one beside it.
@@ -460,25 +440,29 @@ fn strange_to<K: Naming, J: Naming, R: Wait>(
 #[test]
 fn ending(rt: HostRuntime) -> Result<(), Fail> {
     let machine = booted(rt.alloc(), &[])?;
-    let ground = Ground::new(rt.alloc())?;
-    let ended = ending_of::<Brand, _>(&rt, rt.alloc(), ground, machine)?;
+    let ended = play(&rt, rt.alloc(), machine, &ToldToEnd)?;
     assert_eq!(rt; ended, [false, true]);
     Ok(())
 }
 
-/// Whether the users were told to end, before the call and after it.
-fn ending_of<K: Naming, R: Wait>(
-    rt: &R,
-    alloc: Global,
-    ground: Ground,
-    machine: Machine,
-) -> Result<[bool; 2], Refusal>
-    requires { ground ≡ K.table }
-{
-    let shared: Shared<K> = unserved(alloc, ground, machine)?;
-    let before = shared.ended(rt);
-    shared.end(rt);
-    Ok([before, shared.ended(rt)])
+/// The outcome is whether the users were told to end, before the call and after it.
+struct ToldToEnd;
+
+impl Scenario for ToldToEnd {
+    type Outcome = [bool; 2];
+
+    fn play<K: Naming, R: Wait>(
+        &self,
+        rt: &R,
+        shared: &Shared<K>,
+        seats: [Seat; 7],
+        _seen: &mut Seen<K>,
+    ) -> [bool; 2] {
+        leave_all(seats);
+        let before = shared.ended(rt);
+        shared.end(rt);
+        [before, shared.ended(rt)]
+    }
 }
 
 /// Takes the seat out of a holder and serves a reservation with it. Returns how many reservations were stored with the
@@ -552,15 +536,24 @@ fn two_threads_of<K: Naming + Send + Sync, R: Threads + Wait + Sync>(
     requires { ground ≡ K.table }
 {
     let (shared, seats, mut seen) = Shared::<K>::open(alloc, ground, machine)?;
+    Ok(served_by_two(rt, &shared, seats, &mut seen))
+}
+
+/// The calls of both threads, and those before and after them.
+fn served_by_two<K: Naming + Send + Sync, R: Threads + Wait + Sync>(
+    rt: &R,
+    shared: &Shared<K>,
+    seats: [Seat; 7],
+    seen: &mut Seen<K>,
+) -> ServedByTwo {
     let (increment1, increment2) = of_increments(seats);
-    let started = start(rt, &shared, &mut seen);
-    let first = shared.issue(rt, &mut seen);
-    let second = shared.issue(rt, &mut seen);
+    let started = start(rt, shared, seen);
+    let issues = [shared.issue(rt, seen), shared.issue(rt, seen)];
     let was_drained = shared.drained(rt);
-    let stored = serve_both(rt, &shared, increment1, increment2);
+    let stored = serve_both(rt, shared, increment1, increment2);
     let drained = [was_drained, shared.drained(rt)];
-    let shown = shows(rt, &shared, &mut seen, "5", "3", 2);
-    Ok((started, [first, second], stored, drained, shown))
+    let shown = shows(rt, shared, seen, "5", "3", 2);
+    (started, issues, stored, drained, shown)
 }
 
 /// Whether the log of a snapshot is the exchange followed by this many instructions.
@@ -594,13 +587,12 @@ fn met<K: Naming, R: Wait>(
 #[test]
 fn meeting(rt: HostRuntime) -> Result<(), Fail> {
     let machine = booted(rt.alloc(), &[(0o100, PASSES), (0o101, FIVE)])?;
-    let ground = Ground::new(rt.alloc())?;
-    let met = meeting_of::<Brand, _>(&rt, rt.alloc(), ground, machine)?;
+    let met = play(&rt, rt.alloc(), machine, &MetAfterFour)?;
     let passes = [Ok(None), Ok(None), Ok(None), Ok(None)];
     let fifth = issued(Unit::Increment1, 1);
     assert_eq!(rt;
         met,
-        (Ok(()), passes, true, fifth, Some(Refusal::NotDrained))
+        Ok((Ok(()), passes, true, fifth, Some(Refusal::NotDrained)))
     );
     Ok(())
 }
@@ -615,19 +607,24 @@ type Met = (
     Option<Refusal>,
 );
 
-fn meeting_of<K: Naming, R: Wait>(
-    rt: &R,
-    alloc: Global,
-    ground: Ground,
-    machine: Machine,
-) -> Result<Met, Refusal>
-    requires { ground ≡ K.table }
-{
-    let (shared, seats, mut seen) = Shared::<K>::open(alloc, ground, machine)?;
-    leave_all(seats);
-    let started = start(rt, &shared, &mut seen);
-    let mut other = seen.split()?;
-    Ok(met_after(rt, &shared, started, &mut seen, &mut other))
+/// A second holder meets the issuing thread, which has issued four times.
+struct MetAfterFour;
+
+impl Scenario for MetAfterFour {
+    type Outcome = Result<Met, Refusal>;
+
+    fn play<K: Naming, R: Wait>(
+        &self,
+        rt: &R,
+        shared: &Shared<K>,
+        seats: [Seat; 7],
+        seen: &mut Seen<K>,
+    ) -> Result<Met, Refusal> {
+        leave_all(seats);
+        let started = start(rt, shared, seen);
+        let mut other = seen.split()?;
+        Ok(met_after(rt, shared, started, seen, &mut other))
+    }
 }
 
 /// The issues, the meetings and the snapshots after the start.
@@ -669,15 +666,14 @@ fn knows_four<K: Naming, R: Wait>(
 #[test]
 fn exchanges_in_a_row(rt: HostRuntime) -> Result<(), Fail> {
     let machine = booted(rt.alloc(), &[])?;
-    let ground = Ground::new(rt.alloc())?;
-    let (answers, is_logged) = exchanges_of::<Brand, _>(&rt, rt.alloc(), ground, machine)?;
+    let exchanges = play(&rt, rt.alloc(), machine, &ExchangesInARow)?;
     let wanted = [
         Err(Refusal::Nothing),
         Ok(Ok(())),
         Ok(Err(Refusal::PackageRange)),
         Err(Refusal::Nothing),
     ];
-    assert!(rt; answers == wanted && is_logged);
+    assert!(rt; exchanges == (Ok(()), wanted, true));
     Ok(())
 }
 
@@ -694,35 +690,38 @@ fn followed<K: Naming, R: Wait>(
     shared.exchange_and_ask(rt, seen, next)
 }
 
-fn exchanges_of<K: Naming, R: Wait>(
-    rt: &R,
-    alloc: Global,
-    ground: Ground,
-    machine: Machine,
-) -> Result<([Followed; 4], bool), Refusal>
-    requires { ground ≡ K.table }
-{
-    let (shared, seats, mut seen) = Shared::<K>::open(alloc, ground, machine)?;
-    leave_all(seats);
-    let none = followed(rt, &shared, &mut seen, Some(0o60));
-    exchanges_after(rt, &shared, &mut seen, none)
+/// The outcome is the answer of the request after the first exchange, the answers of the exchanges, and whether the log
+/// has the two that were made.
+struct ExchangesInARow;
+
+impl Scenario for ExchangesInARow {
+    type Outcome = (Result<(), Refusal>, [Followed; 4], bool);
+
+    fn play<K: Naming, R: Wait>(
+        &self,
+        rt: &R,
+        shared: &Shared<K>,
+        seats: [Seat; 7],
+        seen: &mut Seen<K>,
+    ) -> (Result<(), Refusal>, [Followed; 4], bool) {
+        leave_all(seats);
+        let none = followed(rt, shared, seen, Some(0o60));
+        let asked = shared.ask(rt, seen, 0o40);
+        let answers = [
+            none,
+            followed(rt, shared, seen, Some(0o60)),
+            followed(rt, shared, seen, Some(0o1000)),
+            followed(rt, shared, seen, None),
+        ];
+        (asked, answers, has_two_exchanges(rt, shared, seen))
+    }
 }
 
-/// The request for the first exchange, and what follows it.
-fn exchanges_after<K: Naming, R: Wait>(
-    rt: &R,
-    shared: &Shared<K>,
-    seen: &mut Seen<K>,
-    none: Followed,
-) -> Result<([Followed; 4], bool), Refusal> {
-    shared.ask(rt, seen, 0o40)?;
-    let answers = [
-        none,
-        followed(rt, shared, seen, Some(0o60)),
-        followed(rt, shared, seen, Some(0o1000)),
-        followed(rt, shared, seen, None),
-    ];
-    let snapshot = shared.snapshot(rt, seen)?;
+/// Whether a snapshot has both exchanges in its log, and nothing else.
+fn has_two_exchanges<K: Naming, R: Wait>(rt: &R, shared: &Shared<K>, seen: &mut Seen<K>) -> bool {
     let made = [Entry::Exchange(0o40), Entry::Exchange(0o60)];
-    Ok((answers, snapshot.log().entries() == made.as_slice()))
+    match shared.snapshot(rt, seen) {
+        Ok(snapshot) => snapshot.log().entries() == made.as_slice(),
+        Err(_) => false,
+    }
 }

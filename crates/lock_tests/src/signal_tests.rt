@@ -1,7 +1,8 @@
 //! How the threads that drive a machine wake each other.
 ghost use Rattle.std.specs.Prelude.{◌≡◌};
 
-use crate::fixtures::{FIRST, booted, leave, note, opened};
+use crate::fixtures::{FIRST, booted, leave, leave_all, note, of_increment1};
+use crate::scenario::{Scenario, play};
 use instruction_table::{Refusal, Unit};
 use machine::{Machine, Note, Seat};
 use machine_lock::{Ground, Naming, Seen, Shared, Signal, Signals, Wakeups};
@@ -70,8 +71,7 @@ fn served<K: Naming, R: Wait>(
 #[test]
 fn stores_are_told(rt: HostRuntime) -> Result<(), Fail> {
     let machine = booted(rt.alloc(), &[(0o100, FIRST)])?;
-    let ground = Ground::new(rt.alloc())?;
-    let stored = stores_told::<Brand, _>(&rt, rt.alloc(), ground, machine)?;
+    let stored = play(&rt, rt.alloc(), machine, &Stores)?;
     let after = Some([(1, 1, 0), (1, 1, 0), (1, 1, 0), (2, 1, 1)]);
     let refused = Err(Refusal::Nothing);
     assert_eq!(rt;
@@ -94,97 +94,109 @@ type Stored = (
     Counts,
 );
 
-fn stores_told<K: Naming, R: Wait>(
-    rt: &R,
-    alloc: Global,
-    ground: Ground,
-    machine: Machine,
-) -> Result<Stored, Refusal>
-    requires { ground ≡ K.table }
-{
-    let (shared, seat, mut seen) = opened::<K>(alloc, ground, machine)?;
-    let asked = shared.ask(rt, &mut seen, 0o40);
-    let exchanged = shared.exchange(rt, &mut seen);
-    let issued = shared.issue(rt, &mut seen);
-    shared.signals().issuing.await_change(true);
-    let (seat, after) = served(rt, &shared, seat, note(Unit::Increment1, 1));
-    let refused = shared.accept(rt, 0);
-    let is_made = asked.is_ok() && exchanged.is_ok() && issued.is_ok();
-    Ok((is_made, leave(seat), after, refused, told(&shared)))
+/// An exchange, an issue and the service of the reservation, while the issuing thread waits for a change.
+struct Stores;
+
+impl Scenario for Stores {
+    type Outcome = Stored;
+
+    fn play<K: Naming, R: Wait>(
+        &self,
+        rt: &R,
+        shared: &Shared<K>,
+        seats: [Seat; 7],
+        seen: &mut Seen<K>,
+    ) -> Stored {
+        let seat = of_increment1(seats);
+        let asked = shared.ask(rt, seen, 0o40);
+        let exchanged = shared.exchange(rt, seen);
+        let issued = shared.issue(rt, seen);
+        shared.signals().issuing.await_change(true);
+        let (seat, after) = served(rt, shared, seat, note(Unit::Increment1, 1));
+        let refused = shared.accept(rt, 0);
+        let is_made = asked.is_ok() && exchanged.is_ok() && issued.is_ok();
+        (is_made, leave(seat), after, refused, told(shared))
+    }
 }
 
 /// A raise for one unit raises the signal of its worker alone; the end raises all signals.
 #[test]
 fn the_end_is_told_to_all(rt: HostRuntime) -> Result<(), Fail> {
     let machine = booted(rt.alloc(), &[])?;
-    let ground = Ground::new(rt.alloc())?;
-    let counts = end_told::<Brand, _>(&rt, rt.alloc(), ground, machine)?;
+    let counts = play(&rt, rt.alloc(), machine, &RaisedAndEnded)?;
     let before = ([0, 0, 1, 0, 0, 0, 0], (0, 0, 0));
     let after = ([1, 1, 2, 1, 1, 1, 1], (1, 1, 1));
     assert_eq!(rt; counts, [before, after]);
     Ok(())
 }
 
-/// The counts of the workers and of the other threads, before the end and after it.
-fn end_told<K: Naming, R: Wait>(
-    rt: &R,
-    alloc: Global,
-    ground: Ground,
-    machine: Machine,
-) -> Result<[([u64; 7], Counts); 2], Refusal>
-    requires { ground ≡ K.table }
-{
-    let (shared, seat, _) = opened::<K>(alloc, ground, machine)?;
-    seat.leave();
-    shared.signals().worker(Unit::Shift).raise();
-    let before = (sent(&shared), told(&shared));
-    shared.end(rt);
-    Ok([before, (sent(&shared), told(&shared))])
+/// The outcome is the counts of the workers and of the other threads, before the end and after it.
+struct RaisedAndEnded;
+
+impl Scenario for RaisedAndEnded {
+    type Outcome = [([u64; 7], Counts); 2];
+
+    fn play<K: Naming, R: Wait>(
+        &self,
+        rt: &R,
+        shared: &Shared<K>,
+        seats: [Seat; 7],
+        _seen: &mut Seen<K>,
+    ) -> [([u64; 7], Counts); 2] {
+        leave_all(seats);
+        shared.signals().worker(Unit::Shift).raise();
+        let before = (sent(shared), told(shared));
+        shared.end(rt);
+        [before, (sent(shared), told(shared))]
+    }
 }
 
 /// A signal is raised by a change that its thread waits for, and by nothing else.
 #[test]
 fn waiting_threads_are_told(rt: HostRuntime) -> Result<(), Fail> {
     let machine = booted(rt.alloc(), &[])?;
-    let ground = Ground::new(rt.alloc())?;
-    let counts = told_by_turns::<Brand, _>(&rt, rt.alloc(), ground, machine)?;
+    let counts = play(&rt, rt.alloc(), machine, &WaitingByTurns)?;
     assert_eq!(rt; counts, [0, 1, 1, 2]);
     Ok(())
 }
 
-/// The counts of a signal after a change and a read: if its thread waits for nothing, for a change, for nothing again,
-/// and for a read.
-fn told_by_turns<K: Naming, R: Wait>(
-    _rt: &R,
-    alloc: Global,
-    ground: Ground,
-    machine: Machine,
-) -> Result<[u64; 4], Refusal>
-    requires { ground ≡ K.table }
-{
-    let (shared, seat, _) = opened::<K>(alloc, ground, machine)?;
-    seat.leave();
-    let signal = &shared.signals().memory;
-    let changed = Wakeups {
-        changed: true,
-        ..Wakeups::default()
-    };
-    let read = Wakeups {
-        read: true,
-        ..Wakeups::default()
-    };
-    let mut counts = [0; 4];
-    for (turn, waits) in [(false, false), (true, false), (false, false), (false, true)]
-        .iter()
-        .enumerate()
-    {
-        signal.await_change(waits.0);
-        signal.await_read(waits.1);
-        signal.wake(&changed);
-        signal.wake(&read);
-        counts[turn] = signal.count();
+/// The outcome is the counts of a signal after a change and a read: if its thread waits for nothing, for a change, for
+/// nothing again, and for a read.
+struct WaitingByTurns;
+
+impl Scenario for WaitingByTurns {
+    type Outcome = [u64; 4];
+
+    fn play<K: Naming, R: Wait>(
+        &self,
+        _rt: &R,
+        shared: &Shared<K>,
+        seats: [Seat; 7],
+        _seen: &mut Seen<K>,
+    ) -> [u64; 4] {
+        leave_all(seats);
+        let signal = &shared.signals().memory;
+        let changed = Wakeups {
+            changed: true,
+            ..Wakeups::default()
+        };
+        let read = Wakeups {
+            read: true,
+            ..Wakeups::default()
+        };
+        let mut counts = [0; 4];
+        for (turn, waits) in [(false, false), (true, false), (false, false), (false, true)]
+            .iter()
+            .enumerate()
+        {
+            signal.await_change(waits.0);
+            signal.await_read(waits.1);
+            signal.wake(&changed);
+            signal.wake(&read);
+            counts[turn] = signal.count();
+        }
+        counts
     }
-    Ok(counts)
 }
 
 /// A wait ends if its signal is raised, and also if it isn't; then the wait can be repeated.
@@ -192,15 +204,12 @@ fn told_by_turns<K: Naming, R: Wait>(
 fn waits_end(rt: HostRuntime) -> Result<(), Fail> {
     let machine = booted(rt.alloc(), &[])?;
     let ground = Ground::new(rt.alloc())?;
-    assert_eq!(rt;
-        wait_and_raise::<Brand, _>(&rt, rt.alloc(), ground, machine)?,
-        [0, 1, 1, 2]
-    );
+    let counts = wait_and_raise::<Brand, _>(&rt, rt.alloc(), ground, machine)?;
+    assert_eq!(rt; counts, [0, 1, 1, 2]);
     Ok(())
 }
 
-/// The counts of a signal after a fruitless wait, after a wait that another thread ended, after many fruitless waits,
-/// and after one more wait that another thread ended.
+/// Opens a machine that no thread serves, and waits for one of its signals.
 fn wait_and_raise<K: Naming, R: Threads + Wait + Sync>(
     rt: &R,
     alloc: Global,
@@ -209,9 +218,15 @@ fn wait_and_raise<K: Naming, R: Threads + Wait + Sync>(
 ) -> Result<[u64; 4], Refusal>
     requires { ground ≡ K.table }
 {
-    let (shared, seat, _) = opened::<K>(alloc, ground, machine)?;
-    seat.leave();
-    let (signals, signal) = (shared.signals(), &shared.signals().memory);
+    let (shared, seats, _) = Shared::<K>::open(alloc, ground, machine)?;
+    leave_all(seats);
+    Ok(counts_of_waits(rt, shared.signals()))
+}
+
+/// The counts of a signal after a fruitless wait, after a wait that another thread ended, after many fruitless waits,
+/// and after one more wait that another thread ended.
+fn counts_of_waits<R: Threads + Wait + Sync>(rt: &R, signals: &Signals) -> [u64; 4] {
+    let signal = &signals.memory;
     let mut wait = signals.waiting();
     wait.until_raised(rt, signal, 0);
     let in_vain = signal.count();
@@ -221,7 +236,7 @@ fn wait_and_raise<K: Naming, R: Threads + Wait + Sync>(
     }
     let unchanged = signal.count();
     let (again, ()) = join(rt, || next_count(rt, signals, 1), || signal.raise());
-    Ok([in_vain, raised, unchanged, again])
+    [in_vain, raised, unchanged, again]
 }
 
 /// Waits until the count of the storage worker's signal is no longer this one, and returns it.
@@ -253,14 +268,12 @@ fn woken<R: Wait>(rt: &R, signal: &Signal) -> u64 {
 fn sleeps_end(rt: HostRuntime) -> Result<(), Fail> {
     let machine = booted(rt.alloc(), &[])?;
     let ground = Ground::new(rt.alloc())?;
-    assert_eq!(rt;
-        sleep_and_wake::<Brand, _>(&rt, rt.alloc(), ground, machine)?,
-        1
-    );
+    let count = sleep_and_wake::<Brand, _>(&rt, rt.alloc(), ground, machine)?;
+    assert_eq!(rt; count, 1);
     Ok(())
 }
 
-/// The count of the signal that ended the second sleep.
+/// Opens a machine that no thread serves, and sleeps until one of its signals is raised.
 fn sleep_and_wake<K: Naming, R: Threads + Wait + Sync>(
     rt: &R,
     alloc: Global,
@@ -269,10 +282,14 @@ fn sleep_and_wake<K: Naming, R: Threads + Wait + Sync>(
 ) -> Result<u64, Refusal>
     requires { ground ≡ K.table }
 {
-    let (shared, seat, _) = opened::<K>(alloc, ground, machine)?;
-    seat.leave();
-    let requests = &shared.signals().requests;
+    let (shared, seats, _) = Shared::<K>::open(alloc, ground, machine)?;
+    leave_all(seats);
+    Ok(count_of_sleeps(rt, &shared.signals().requests))
+}
+
+/// The count of the signal that ended the second sleep.
+fn count_of_sleeps<R: Threads + Wait + Sync>(rt: &R, requests: &Signal) -> u64 {
     requests.sleep(rt, 0);
     let (count, ()) = join(rt, || woken(rt, requests), || requests.raise());
-    Ok(count)
+    count
 }

@@ -3,7 +3,7 @@
 ghost use Rattle.std.specs.Prelude.{◌≡◌, IfOk};
 ghost use Rattle.progress_word.specs.CallerKnowledge.{IsWordOf};
 
-use crate::thread_tests::{BOTH, Hold, NOTES, REGISTERS, Started, start};
+use crate::thread_tests::{BOTH, Hold, NOTES, REGISTERS, Started, of_boolean_and_shift, start};
 use instruction_table::{Refusal, Unit};
 use lock_tests::fixtures::{Wanted, are, booted_over, is_empty, leave_all, note, word, x};
 use machine::{Machine, Note, Seat, Snapshot};
@@ -60,25 +60,6 @@ impl<K: Naming, R: Wait> Gate for Accessing<'_, '_, '_, K, R> {
     fn stored(&mut self, unit: Unit, number: u64) {
         self.hold.stored(unit, number);
     }
-}
-
-/// The seats of Boolean and Shift. The other seats are given up.
-fn of_boolean_and_shift(seats: [Seat; 7]) -> (Seat, Seat) {
-    let [
-        branch,
-        boolean,
-        shift,
-        long_add,
-        divide,
-        increment1,
-        increment2,
-    ] = seats;
-    branch.leave();
-    long_add.leave();
-    divide.leave();
-    increment1.leave();
-    increment2.leave();
-    (boolean, shift)
 }
 
 /// The work of one thread: it serves a reservation with the seat of a holder, and writes and reads the word at its
@@ -158,10 +139,21 @@ fn is_as_logged(snapshot: &Snapshot, first: WordRead, second: WordRead) -> bool 
     false
 }
 
-/// Whether X1 and X3 hold the values of both units.
-fn has_values(snapshot: &Snapshot) -> bool {
+/// Whether a snapshot has the values of both units in X1 and X3, and its log agrees with the words that were read.
+fn shows<K: Naming, R: Wait>(
+    rt: &R,
+    shared: &Shared<K>,
+    seen: &mut Seen<K>,
+    first: WordRead,
+    second: WordRead,
+) -> bool {
+    let Ok(snapshot) = shared.snapshot(rt, seen) else {
+        return false;
+    };
     let registers = &snapshot.state().registers;
-    registers.get(x(1)) == word("6") && registers.get(x(3)) == word("10")
+    registers.get(x(1)) == word("6")
+        && registers.get(x(3)) == word("10")
+        && is_as_logged(&snapshot, first, second)
 }
 
 /// The answer of the start; whether both reservations were stored, Boolean's after Shift's; the answers of two further
@@ -179,11 +171,24 @@ fn accesses_beside<K: Naming + Send + Sync, R: Threads + Wait + Sync>(
     requires { ground ≡ K.table }
 {
     let (shared, seats, mut seen) = Shared::<K>::open(alloc, ground, machine)?;
-    let Ok(other) = seen.split() else {
-        leave_all(seats);
-        return Err(Refusal::OutOfMemory);
-    };
-    let started = start(rt, &shared, &mut seen);
+    match seen.split() {
+        Ok(other) => Ok(accesses(rt, &shared, seats, seen, other)),
+        Err(refusal) => {
+            leave_all(seats);
+            Err(refusal)
+        }
+    }
+}
+
+/// The calls of both threads, and those before and after them.
+fn accesses<K: Naming + Send + Sync, R: Threads + Wait + Sync>(
+    rt: &R,
+    shared: &Shared<K>,
+    seats: [Seat; 7],
+    mut seen: Seen<K>,
+    other: Seen<K>,
+) -> Accessed {
+    let started = start(rt, shared, &mut seen);
     let (boolean, shift) = of_boolean_and_shift(seats);
     let mut of_boolean = Some(boolean);
     let mut of_shift = Some(shift);
@@ -194,22 +199,15 @@ fn accesses_beside<K: Naming + Send + Sync, R: Threads + Wait + Sync>(
     let two = Word60::from_bits(2);
     let ((mut seen, first, is_first), (other, second, is_second)) = join(
         rt,
-        || serve_and_access(rt, &shared, &hold, &mut of_boolean, held, seen, one),
-        || serve_and_access(rt, &shared, &hold, &mut of_shift, until, other, two),
+        || serve_and_access(rt, shared, &hold, &mut of_boolean, held, seen, one),
+        || serve_and_access(rt, shared, &hold, &mut of_shift, until, other, two),
     );
     drop(other);
     let was_taken = is_empty(of_boolean);
     let are_stored = is_empty(of_shift) && was_taken && is_first && is_second;
-    let third = shared.issue(rt, &mut seen);
-    let fourth = shared.issue(rt, &mut seen);
-    let snapshot = shared.snapshot(rt, &mut seen)?;
-    let is_shown = has_values(&snapshot) && is_as_logged(&snapshot, first, second);
-    Ok((
-        started,
-        are_stored && hold.is_released(),
-        [third, fourth],
-        is_shown,
-    ))
+    let issues = [shared.issue(rt, &mut seen), shared.issue(rt, &mut seen)];
+    let is_shown = shows(rt, shared, &mut seen, first, second);
+    (started, are_stored && hold.is_released(), issues, is_shown)
 }
 
 #[test]

@@ -5,7 +5,8 @@ ghost use Rattle.std.specs.Prelude.{◌≡◌};
 use crate::queue_tests::{Sending, Taking};
 use instruction_table::{Digit, Halt, Refusal, Reg, Unit};
 use lock_tests::fixtures::{
-    Issued, Wanted, Words, are, booted, booted_over, is_empty, leave_all, note, opened, word, x,
+    Issued, Wanted, Words, are, booted, booted_over, is_empty, leave_all, note, of_increment1,
+    word, x,
 };
 use machine::{Event, Machine, Note, Seat};
 use machine_lock::{Ground, Naming, Seen, Shared};
@@ -19,7 +20,7 @@ use std::test::Fail;
 use std::thread;
 use std::thread::Threads;
 use std::time::Clock;
-use unit_queue::lane;
+use unit_queue::{Lane, SendPass, TakePass, lane};
 use unit_workers::{
     Ended, Gate, Gates, Open, Orders, Tally, run_threads, serve, storage_worker, worker,
 };
@@ -366,7 +367,7 @@ fn holds_of(alloc: Global, run: &Run<'_>) -> Result<Vec<Hold>, AllocError> {
 }
 
 /// Whether a run with these holds ends as expected, and each held reservation continued because the other was stored.
-fn ends_held<R: Threads + Wait + Clock + Sync>(
+fn ends_with<R: Threads + Wait + Clock + Sync>(
     rt: &R,
     alloc: Global,
     run: &Run<'_>,
@@ -384,16 +385,27 @@ fn ends_held<R: Threads + Wait + Clock + Sync>(
     ends(rt, alloc, run, gates) && are_released(holds)
 }
 
+/// The same with the holds that the run names.
+fn ends_held<R: Threads + Wait + Clock + Sync>(rt: &R, alloc: Global, run: &Run<'_>) -> bool {
+    match holds_of(alloc, run) {
+        Ok(holds) => ends_with(rt, alloc, run, holds.as_slice()),
+        Err(_) => false,
+    }
+}
+
+/// The name of the first run that doesn't end as expected.
+fn failed_run<R: Threads + Wait + Clock + Sync>(rt: &R, alloc: Global) -> Option<&'static str> {
+    for run in &RUNS {
+        if !ends_held(rt, alloc, run) {
+            return Some(run.name);
+        }
+    }
+    None
+}
+
 #[test]
 fn runs(rt: HostRuntime) -> Result<(), Fail> {
-    for run in &RUNS {
-        let holds = holds_of(rt.alloc(), run)?;
-        assert!(rt;
-            ends_held(&rt, rt.alloc(), run, holds.as_slice()),
-            "{}",
-            run.name
-        );
-    }
+    assert_eq!(rt; failed_run(&rt, rt.alloc()), None);
     Ok(())
 }
 
@@ -580,13 +592,27 @@ fn exchanges(rt: HostRuntime) -> Result<(), Fail> {
     Ok(())
 }
 
+/// Makes the exchange with the package at 40, and issues twice. Returns whether no event was refused.
+fn begin(machine: &mut Machine) -> bool {
+    for event in [
+        Event::Ask(0o40),
+        Event::Exchange,
+        Event::Issue,
+        Event::Issue,
+    ] {
+        if machine.apply(event).is_err() {
+            return false;
+        }
+    }
+    true
+}
+
 /// A machine that has issued BX1 X2 and LX3 1, for which no worker has a note, and continues with NO, NO and a stop.
 fn begun(alloc: Global) -> Result<Machine, Refusal> {
     let mut machine = booted(alloc, &[(0o100, "10120203014600046000")])?;
-    machine.apply(Event::Ask(0o40))?;
-    machine.apply(Event::Exchange)?;
-    machine.apply(Event::Issue)?;
-    machine.apply(Event::Issue)?;
+    if !begin(&mut machine) {
+        return Err(Refusal::Nothing);
+    }
     Ok(machine)
 }
 
@@ -671,8 +697,8 @@ pub(crate) fn start<K: Naming, R: Wait>(rt: &R, shared: &Shared<K>, seen: &mut S
     Ok([first, second])
 }
 
-/// Boolean's seat. The other seats are given up.
-fn of_boolean(seats: [Seat; 7]) -> Seat {
+/// The seats of Boolean and Shift. The other seats are given up.
+pub(crate) fn of_boolean_and_shift(seats: [Seat; 7]) -> (Seat, Seat) {
     let [
         branch,
         boolean,
@@ -683,11 +709,17 @@ fn of_boolean(seats: [Seat; 7]) -> Seat {
         increment2,
     ] = seats;
     branch.leave();
-    shift.leave();
     long_add.leave();
     divide.leave();
     increment1.leave();
     increment2.leave();
+    (boolean, shift)
+}
+
+/// Boolean's seat. The other seats are given up.
+fn of_boolean(seats: [Seat; 7]) -> Seat {
+    let (boolean, shift) = of_boolean_and_shift(seats);
+    shift.leave();
     boolean
 }
 
@@ -718,27 +750,39 @@ fn serves_its_own_note_once(rt: HostRuntime) -> Result<(), Fail> {
 }
 
 /// The answer of `start`, which notes were served, and the counts of the seat, and of the gate before and after.
+type Served = (Started, [bool; 4], [u64; 3]);
+
 fn serves_once<K: Naming, R: Wait>(
     rt: &R,
     alloc: Global,
     ground: Ground,
     machine: Machine,
-) -> Result<(Started, [bool; 4], [u64; 3]), Refusal>
+) -> Result<Served, Refusal>
     requires { ground ≡ K.table }
 {
     let (shared, seats, mut seen) = Shared::<K>::open(alloc, ground, machine)?;
+    Ok(serves_four(rt, &shared, seats, &mut seen))
+}
+
+/// The start, and the service of four notes.
+fn serves_four<K: Naming, R: Wait>(
+    rt: &R,
+    shared: &Shared<K>,
+    seats: [Seat; 7],
+    seen: &mut Seen<K>,
+) -> Served {
     let mut gate = Count {
         before: 0,
         stored: 0,
     };
     let boolean = of_boolean(seats);
-    let started = start(rt, &shared, &mut seen);
-    let (boolean, is_never) = serve(rt, &shared, note(Unit::Boolean, 3), boolean, &mut gate);
-    let (boolean, is_other) = serve(rt, &shared, note(Unit::Shift, 2), boolean, &mut gate);
-    let (boolean, is_own) = serve(rt, &shared, note(Unit::Boolean, 1), boolean, &mut gate);
-    let (boolean, is_again) = serve(rt, &shared, note(Unit::Boolean, 1), boolean, &mut gate);
+    let started = start(rt, shared, seen);
+    let (boolean, is_never) = serve(rt, shared, note(Unit::Boolean, 3), boolean, &mut gate);
+    let (boolean, is_other) = serve(rt, shared, note(Unit::Shift, 2), boolean, &mut gate);
+    let (boolean, is_own) = serve(rt, shared, note(Unit::Boolean, 1), boolean, &mut gate);
+    let (boolean, is_again) = serve(rt, shared, note(Unit::Boolean, 1), boolean, &mut gate);
     let counts = [boolean.leave(), gate.before, gate.stored];
-    Ok((started, [is_never, is_other, is_own, is_again], counts))
+    (started, [is_never, is_other, is_own, is_again], counts)
 }
 
 /// A gate that holds one reservation.
@@ -820,45 +864,33 @@ fn another_issues_while_a_unit_computes(rt: HostRuntime) -> Result<(), Fail> {
 
 /// The answer of `start`, whether the worker took its seat, and whether it stored, with the answer of the other
 /// thread's issue.
+type Computed = (Started, bool, Option<(bool, Option<Issued>)>);
+
 fn computes_beside<K: Naming + Send + Sync, R: Threads + Wait + Sync>(
     rt: &R,
     alloc: Global,
     ground: Ground,
     machine: Machine,
     hold: &Hold,
-) -> Result<(Started, bool, Option<(bool, Option<Issued>)>), Refusal>
+) -> Result<Computed, Refusal>
     requires { ground ≡ K.table }
 {
-    let (shared, seats, mut seen) = Shared::<K>::open(alloc, ground, machine)?;
-    let mut holder = Some(of_boolean(seats));
-    let started = start(rt, &shared, &mut seen);
-    let computed = serve_while_issuing(rt, &shared, seen, &mut holder, hold);
-    Ok((started, is_empty(holder), computed))
+    let (shared, seats, seen) = Shared::<K>::open(alloc, ground, machine)?;
+    Ok(computes(rt, &shared, seats, seen, hold))
 }
 
-/// Whether the reservation was stored, whether the machine was drained then, and whether it was drained after the
-/// storage worker ended.
-type Referred = (bool, bool, bool);
-
-/// Issues twice, serves the first reservation, which is of Increment1, and then does the work of memory.
-fn serve_increment<K: Naming, R: Wait>(
+/// The start, and the calls of both threads.
+fn computes<K: Naming + Send + Sync, R: Threads + Wait + Sync>(
     rt: &R,
-    alloc: Global,
-    ground: Ground,
-    machine: Machine,
-) -> Result<Referred, Refusal>
-    requires { ground ≡ K.table }
-{
-    let (shared, increment1, mut seen) = opened::<K>(alloc, ground, machine)?;
-    let started = start(rt, &shared, &mut seen);
-    let note = note(Unit::Increment1, 1);
-    let (increment1, is_stored) = serve(rt, &shared, note, increment1, &mut Open);
-    increment1.leave();
-    started?;
-    let is_drained = shared.drained(rt);
-    shared.end(rt);
-    storage_worker(rt, &shared);
-    Ok((is_stored, is_drained, shared.drained(rt)))
+    shared: &Shared<K>,
+    seats: [Seat; 7],
+    mut seen: Seen<K>,
+    hold: &Hold,
+) -> Computed {
+    let mut holder = Some(of_boolean(seats));
+    let started = start(rt, shared, &mut seen);
+    let computed = serve_while_issuing(rt, shared, seen, &mut holder, hold);
+    (started, is_empty(holder), computed)
 }
 
 /// A unit's worker leaves the reference of SA1 B0+17 to the storage worker, although no earlier instruction is pending.
@@ -868,8 +900,42 @@ fn leaves_its_reference(rt: HostRuntime) -> Result<(), Fail> {
     let machine = booted(rt.alloc(), &[(0o100, "51100000174600046000")])?;
     let ground = Ground::new(rt.alloc())?;
     let referred = serve_increment::<Brand, _>(&rt, rt.alloc(), ground, machine)?;
-    assert_eq!(rt; referred, (true, false, true));
+    assert_eq!(rt; referred, (true, [true, false, true]));
     Ok(())
+}
+
+/// Whether both instructions were issued, whether the reservation was stored, whether the machine was drained then, and
+/// whether it was drained after the storage worker ended.
+type Referred = (bool, [bool; 3]);
+
+fn serve_increment<K: Naming, R: Wait>(
+    rt: &R,
+    alloc: Global,
+    ground: Ground,
+    machine: Machine,
+) -> Result<Referred, Refusal>
+    requires { ground ≡ K.table }
+{
+    let (shared, seats, mut seen) = Shared::<K>::open(alloc, ground, machine)?;
+    Ok(refers(rt, &shared, seats, &mut seen))
+}
+
+/// Issues twice, serves the first reservation, which is of Increment1, and then does the work of memory.
+fn refers<K: Naming, R: Wait>(
+    rt: &R,
+    shared: &Shared<K>,
+    seats: [Seat; 7],
+    seen: &mut Seen<K>,
+) -> Referred {
+    let increment1 = of_increment1(seats);
+    let started = start(rt, shared, seen);
+    let note = note(Unit::Increment1, 1);
+    let (increment1, is_stored) = serve(rt, shared, note, increment1, &mut Open);
+    increment1.leave();
+    let is_drained = shared.drained(rt);
+    shared.end(rt);
+    storage_worker(rt, shared);
+    (started.is_ok(), [is_stored, is_drained, shared.drained(rt)])
 }
 
 /// A worker serves the notes of its lane until the lane is closed, and its tally settles.
@@ -883,24 +949,42 @@ fn works_until_closed(rt: HostRuntime) -> Result<(), Fail> {
 }
 
 /// Whether the lane took the note and was closed, the answer of `start`, and the tally.
+type Worked = (bool, Started, Unit, u64, u64);
+
 fn works_until_closed_beside<K: Naming, R: Wait>(
     rt: &R,
     alloc: Global,
     ground: Ground,
     machine: Machine,
-) -> Result<(bool, Started, Unit, u64, u64), Refusal>
+) -> Result<Worked, Refusal>
     requires { ground ≡ K.table }
 {
-    let (lane, mut sender, taker) = lane(alloc, Unit::Boolean)?;
+    let (lane, sender, taker) = lane(alloc, Unit::Boolean)?;
     let (shared, seats, mut seen) = Shared::<K>::open(alloc, ground, machine)?;
+    Ok(works_on(rt, &shared, seats, &mut seen, &lane, sender, taker))
+}
+
+/// The start, the note, and the work on the lane.
+fn works_on<K: Naming, R: Wait>(
+    rt: &R,
+    shared: &Shared<K>,
+    seats: [Seat; 7],
+    seen: &mut Seen<K>,
+    lane: &Lane,
+    mut sender: SendPass,
+    taker: TakePass,
+) -> Worked
+    requires taker { taker.id ≡ lane.now.id }
+    requires sender { sender.id ≡ lane.now.id }
+{
     let boolean = of_boolean(seats);
-    let started = start(rt, &shared, &mut seen);
+    let started = start(rt, shared, seen);
     let is_sent = lane.send(rt, &mut sender, note(Unit::Boolean, 1)).is_ok();
     let is_closed = lane.close(rt, &mut sender);
-    let mut tally = worker(rt, &shared, &lane, taker, boolean, &mut Open);
-    tally.settle(rt, &lane, sender);
+    let mut tally = worker(rt, shared, lane, taker, boolean, &mut Open);
+    tally.settle(rt, lane, sender);
     let (unit, stored, strange) = (tally.unit(), tally.stored(), tally.strange());
-    Ok((is_sent && is_closed, started, unit, stored, strange))
+    (is_sent && is_closed, started, unit, stored, strange)
 }
 
 /// Sends Boolean's note twice and then Shift's on one lane, and closes it.
@@ -911,23 +995,28 @@ fn send_strangers<R: Wait>(rt: &R, mut sending: Sending<'_>) {
     sending.close(rt);
 }
 
-/// Works on a lane with the seat of a holder, which is then empty. Returns how many notes were stored, and how many
-/// were strange.
+/// Works on a lane. Returns how many notes were stored, and how many were strange.
+fn work<K: Naming, R: Wait>(
+    rt: &R,
+    shared: &Shared<K>,
+    taking: Taking<'_>,
+    seat: Seat,
+) -> (u64, u64) {
+    let tally = worker(rt, shared, taking.lane, taking.pass, seat, &mut Open);
+    (tally.stored(), tally.strange())
+}
+
+/// The same with the seat of a holder, which is then empty.
 fn work_with<K: Naming, R: Wait>(
     rt: &R,
     shared: &Shared<K>,
     taking: Taking<'_>,
     holder: &mut Option<Seat>,
 ) -> Option<(u64, u64)> {
-    let tally = worker(
-        rt,
-        shared,
-        taking.lane,
-        taking.pass,
-        holder.take()?,
-        &mut Open,
-    );
-    Some((tally.stored(), tally.strange()))
+    match holder.take() {
+        Some(seat) => Some(work(rt, shared, taking, seat)),
+        None => None,
+    }
 }
 
 /// The same while another thread sends strangers' notes. `None` if that thread couldn't be started.
@@ -957,18 +1046,18 @@ fn counts_strangers(rt: HostRuntime) -> Result<(), Fail> {
 }
 
 /// The answer of `start`, whether the worker took its seat, and how many notes were stored and how many were strange.
+type Counted = (Started, bool, Option<(u64, u64)>);
+
 fn counts_strangers_beside<K: Naming + Send + Sync, R: Threads + Wait + Sync>(
     rt: &R,
     alloc: Global,
     ground: Ground,
     machine: Machine,
-) -> Result<(Started, bool, Option<(u64, u64)>), Refusal>
+) -> Result<Counted, Refusal>
     requires { ground ≡ K.table }
 {
     let (lane, sender, taker) = lane(alloc, Unit::Boolean)?;
     let (shared, seats, mut seen) = Shared::<K>::open(alloc, ground, machine)?;
-    let mut holder = Some(of_boolean(seats));
-    let started = start(rt, &shared, &mut seen);
     let sending = Sending {
         lane: &lane,
         pass: sender,
@@ -977,6 +1066,20 @@ fn counts_strangers_beside<K: Naming + Send + Sync, R: Threads + Wait + Sync>(
         lane: &lane,
         pass: taker,
     };
-    let counts = strange_tally(rt, &shared, sending, taking, &mut holder);
-    Ok((started, is_empty(holder), counts))
+    Ok(counts(rt, &shared, seats, &mut seen, sending, taking))
+}
+
+/// The start, and the calls of both threads.
+fn counts<K: Naming + Send + Sync, R: Threads + Wait + Sync>(
+    rt: &R,
+    shared: &Shared<K>,
+    seats: [Seat; 7],
+    seen: &mut Seen<K>,
+    sending: Sending<'_>,
+    taking: Taking<'_>,
+) -> Counted {
+    let mut holder = Some(of_boolean(seats));
+    let started = start(rt, shared, seen);
+    let counts = strange_tally(rt, shared, sending, taking, &mut holder);
+    (started, is_empty(holder), counts)
 }
