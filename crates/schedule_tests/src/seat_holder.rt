@@ -1,8 +1,8 @@
 //! For the tests: a machine under its lock with all its seats. Its events are made by the calls of `Shared`.
 
-ghost use Rattle.std.specs.Prelude.{◌≡◌, ◌<◌, IfSome};
+ghost use Rattle.std.specs.Prelude.{◌≡◌};
 
-use instruction_table::{Refusal, Unit};
+use instruction_table::{PerUnit, Refusal, Unit};
 use machine::{Answer, Computed, Done, Event, Finished, Machine, Note, Reserved, Seat, Snapshot};
 use machine_lock::{Ground, Naming, Seen, Shared};
 use std::alloc::Global;
@@ -87,23 +87,7 @@ fn abandoned(seat: Seat) -> Option<(Unit, u64)> {
 pub struct SeatHolder<K: Naming> {
     shared: Shared<K>,
     seen: Seen<K>,
-    held: [Held; 7],
-}
-
-/// The index in `held` of a unit in use.
-fn place_of(unit: Unit) -> Option<usize>
-    ensures { IfSome result (λ position. position < 7) }
-{
-    match unit {
-        Unit::Branch => Some(0),
-        Unit::Boolean => Some(1),
-        Unit::Shift => Some(2),
-        Unit::LongAdd => Some(3),
-        Unit::Divide => Some(4),
-        Unit::Increment1 => Some(5),
-        Unit::Increment2 => Some(6),
-        Unit::Add | Unit::Multiply1 | Unit::Multiply2 => None,
-    }
+    held: PerUnit<Held>,
 }
 
 /// The answer of a call that returns nothing.
@@ -119,31 +103,14 @@ impl<K: Naming> SeatHolder<K> {
         requires { ground ≡ K.table }
     {
         let (shared, seats, seen) = Shared::<K>::open(alloc, ground, machine)?;
-        let [
-            branch,
-            boolean,
-            shift,
-            long_add,
-            divide,
-            increment1,
-            increment2,
-        ] = seats;
-        let held = [
-            Held::Idle(branch),
-            Held::Idle(boolean),
-            Held::Idle(shift),
-            Held::Idle(long_add),
-            Held::Idle(divide),
-            Held::Idle(increment1),
-            Held::Idle(increment2),
-        ];
+        let held = PerUnit::from_array(seats).map(Held::Idle);
         Ok(SeatHolder { shared, seen, held })
     }
 
     /// Takes out the seat or token of a unit for a call.
     fn lend(&mut self, unit: Unit) -> Held {
-        match place_of(unit) {
-            Some(position) => mem::replace(&mut self.held[position], Held::Lent),
+        match self.held.get_mut(unit) {
+            Some(held) => mem::replace(held, Held::Lent),
             None => Held::Lent,
         }
     }
@@ -151,8 +118,8 @@ impl<K: Naming> SeatHolder<K> {
     /// Puts back the seat or token after a call, and returns the call's answer.
     fn take_back(&mut self, unit: Unit, step: Step) -> Answer {
         let (held, answer) = step;
-        let left = match place_of(unit) {
-            Some(position) => mem::replace(&mut self.held[position], held),
+        let left = match self.held.get_mut(unit) {
+            Some(lent) => mem::replace(lent, held),
             None => held,
         };
         left.leave();
@@ -218,23 +185,6 @@ impl<K: Naming> SeatHolder<K> {
         let SeatHolder { shared, seen, held } = self;
         drop(seen);
         drop(shared);
-        let [
-            branch,
-            boolean,
-            shift,
-            long_add,
-            divide,
-            increment1,
-            increment2,
-        ] = held;
-        [
-            branch.leave(),
-            boolean.leave(),
-            shift.leave(),
-            long_add.leave(),
-            divide.leave(),
-            increment1.leave(),
-            increment2.leave(),
-        ]
+        held.map(Held::leave).into_array()
     }
 }
