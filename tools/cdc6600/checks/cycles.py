@@ -2,7 +2,8 @@
 
 - A session with times that are given here is drawn as text, as a picture and as a page, and each mark has to be in the
   cycle that was counted by hand.
-- The page that compares two schedules of a deck has to say of each what `tools/schedule --summary` says.
+- The page that compares two schedules of a deck has to say of each what `tools/schedule --summary` says, by each
+  policy: the instructions, the cycles, and the waits with their causes.
 - tools/gallery writes the pages of sessions and decks that it is given.
 - Bad input has one line, and a status.
 
@@ -21,6 +22,7 @@ from cdc6600.drawing.page import DATA
 from cdc6600.shared.decks import deck, session
 from cdc6600.shared.program import ROOT, tell
 from cdc6600.shared.waiting import run
+from cdc6600.timing.scheduling import POLICIES, TIMED
 
 TIMELINE, GALLERY, SCHEDULE = (ROOT / "tools" / name for name in ("timeline", "gallery", "schedule"))
 TIMES = "issue15 1\nissue30 2\nboolean 3\nshift 3\nlongadd 4\nincrement 3\ndivide 8\nuntaken 5\ntaken 8\nhopper 1\n" \
@@ -75,21 +77,47 @@ def faults_of_page(words):
     return [] if came == COUNTED else [f"the page has the cycles {came}, and should have {COUNTED}"]
 
 
-def faults_of_comparison(folder):
-    """What the page of two schedules says otherwise than their summaries."""
-    it, files, wanted = deck("sum-less-one").file, [], []
-    for policy in ("program-order", "timed"):
-        files.append(folder / f"{policy}.session")
-        files[-1].write_text(printed(SCHEDULE, "--policy", policy, it), encoding="latin-1")
-        wanted.append(re.search(r"(\d+) instructions in (\d+) .*, ([0-9.]+) inst",
-                                printed(SCHEDULE, "--summary", "--policy", policy, it)).groups())
-    rows = {name: values for name, *values in TD.findall(printed(TIMELINE, "--html", "--compare", *files))}
-    names = ("Instructions", "Minor cycles", "Instructions a minor cycle")
-    came = list(zip(*(rows.get(name, ("", "")) for name in names)))
-    faults = [] if came == wanted else [f"the page of two schedules says {came}, and should say {wanted}"]
-    waits = [int(values[1]) for name, values in rows.items() if name.startswith("·")]
-    heads = [int(values[1]) for name, values in rows.items() if name.startswith("Waits")]
-    return faults + [f"waits of {waits} aren't {heads} in all"] * (sum(waits) != sum(heads) or not waits)
+class Told:
+    """What is told of a schedule: its counts, and the waits of the issuing position and of the reservations, each with
+    its cause."""
+
+    def __init__(self, counts, lines):
+        self.counts, self.waits, head = counts, [], -1
+        for name, value, is_head in lines:
+            head += is_head
+            self.waits += [(head, name, value)] * (not is_head and value != "0")
+
+
+def told_by_summary(policy, file):
+    """What `tools/schedule --summary` tells."""
+    said = printed(SCHEDULE, "--summary", "--policy", policy, file)
+    first, *lines = said.splitlines()
+    rows = [re.fullmatch(r"(?:  waits: (.*\S) +(\d+)|(the .*):)", line) for line in lines]
+    waits = [(row[1] or row[3], row[2] or "", bool(row[3])) for row in rows if row]
+    return Told(re.search(r"(\d+) instructions in (\d+) .*, ([0-9.]+) inst", first).groups(), waits)
+
+
+def told_by_page(files):
+    """What the page of two schedules tells of each."""
+    rows = TD.findall(printed(TIMELINE, "--html", "--compare", *files))
+    counts = {name: values for name, *values in rows}
+    for at in range(len(files)):
+        waits = [(name.removeprefix("· "), values[at], not name.startswith("· ")) for name, *values in rows[3:]]
+        yield Told(tuple(counts[name][at] for name in ("Instructions", "Minor cycles", "Instructions a minor cycle")), waits)
+
+
+def faults_of_comparison(folder, name):
+    """What the page of two schedules says otherwise than their summaries, for each policy beside the default one."""
+    it, files, faults = deck(name).file, {}, []
+    for policy in POLICIES:
+        files[policy] = folder / f"{name}-{policy}.session"
+        files[policy].write_text(printed(SCHEDULE, "--policy", policy, it), encoding="latin-1")
+    for policy in POLICIES:
+        for of, came in zip((policy, TIMED), told_by_page([files[policy], files[TIMED]])):
+            wanted = told_by_summary(of, it)
+            faults += [f"the page says of {name}, {of}: {vars(came)}, and should say {vars(wanted)}"] * (
+                vars(came) != vars(wanted))
+    return faults
 
 
 def faults_of_gallery(folder):
@@ -135,6 +163,8 @@ def main():
         (folder / "times").write_text(TIMES, encoding="ascii")
         words = ["--cycles", "--times", folder / "times", session("conflicts").file]
         faults = [fault for work in (faults_of_text, faults_of_picture, faults_of_page) for fault in work(words)]
-        for work in (faults_of_comparison, faults_of_gallery, faults_of_refusals):
+        for name in ("load-store", "subroutine"):
+            faults += faults_of_comparison(folder, name)
+        for work in (faults_of_gallery, faults_of_refusals):
             faults += work(folder)
     return tell(faults)

@@ -21,11 +21,11 @@ import os
 import tempfile
 from concurrent.futures import ThreadPoolExecutor
 
-from cdc6600.drawing.following import Fault, Following, Session, text_of
+from cdc6600.drawing.following import Fault, Session, text_of
 from cdc6600.shared.decks import decks, log_of
 from cdc6600.shared.program import ROOT, Program, tell
 from cdc6600.shared.waiting import faults_found, run
-from cdc6600.timing.clock import clocked
+from cdc6600.timing.clock import ORDER, clocked
 from cdc6600.timing.scheduling import POLICIES, PROGRAM_ORDER, TIMED, Schedule
 from cdc6600.timing.times import DEFAULT, read_times
 from cdc6600.timing.waits import account, faults_of
@@ -74,19 +74,15 @@ INPUTS = (
 def scheduled(program, deck, policy, times):
     """The schedule of a deck by a policy."""
     schedule = Schedule(program, Session(str(deck), deck.text.decode("latin-1")), times, policy, BUDGET)
+    # The waits by what the machine has refused.
+    schedule.clock.cause = lambda part: schedule.refused.get(part, ORDER)
     schedule.make()
     return schedule
 
 
-def text_of_session(schedule):
-    """The session of a schedule."""
-    session = schedule.session
-    return "\n".join([*session.text.split("\n")[: session.deck_end], *schedule.events, "end", ""])
-
-
 def faults_of_session(program, deck, schedule):
     """What is wrong with the session of a schedule, as `events` answers it."""
-    lines = program.run(["events"], text_of_session(schedule).encode("latin-1")).printed.split(b"\n")
+    lines = program.run(["events"], schedule.text().encode("latin-1")).printed.split(b"\n")
     answers, dump = lines[: len(schedule.events)], b"\n".join(lines[len(schedule.events) :])
     faults = [f"{event} is answered {answer.decode()}" for event, answer in zip(schedule.events, answers)
               if not answer.startswith(b"ok")]
@@ -98,10 +94,9 @@ def faults_of_session(program, deck, schedule):
     return faults
 
 
-def faults_of_following(program, schedule, times):
+def faults_of_following(schedule, times):
     """Whether the session of a schedule has the same cycles and waits when it is followed."""
-    following = Following(program, Session(str(schedule.session.file), text_of_session(schedule)), None, None)
-    following.follow()
+    following = schedule.followed()
     came, wanted = clocked(following, times), [*schedule.cycles, schedule.clock.now]
     faults = [f"followed, its events have the cycles {came}, not {wanted}"] * (came != wanted)
     judged = account(following, times)
@@ -119,7 +114,7 @@ def faults_of_deck(program, times, deck):
     faults = []
     for policy, schedule in made.items():
         found = faults_of(schedule.clock) + faults_of_session(program, deck, schedule)
-        found += faults_of_following(program, schedule, times) if deck.name in FOLLOWED else []
+        found += faults_of_following(schedule, times) if deck.name in FOLLOWED else []
         faults += [f"{policy}: {fault}" for fault in found]
     timed, in_order = made[TIMED], made[PROGRAM_ORDER]
     if timed.clock.now > in_order.clock.now and timed.log.text == in_order.log.text:
@@ -132,7 +127,7 @@ def faults_by_hand(program, times, name):
     session = Session(name, text_of(ROOT / name) if name == DECK else name)
     schedule = Schedule(program, session, times)
     schedule.make()
-    clock = schedule.clock
+    clock = account(schedule.followed(), times)
     came = clock.now, clock.issuing.work, clock.issuing.waits, [part.waits for part in clock.parts]
     return [] if came == BY_HAND[name] else [f"{name}: {came}, by hand {BY_HAND[name]}"]
 

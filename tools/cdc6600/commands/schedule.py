@@ -24,6 +24,7 @@ from cdc6600.shared.program import Program
 from cdc6600.timing.scheduling import POLICIES, TIMED, Schedule
 from cdc6600.timing.summary import put, summary
 from cdc6600.timing.times import read_times
+from cdc6600.timing.waits import account
 
 # How many instructions are issued at most where nothing is said.
 BUDGET = 1000
@@ -53,11 +54,7 @@ def work():
     session, times = Session(given.deck, text_of(given.deck)), read_times(given.times)
     schedule = Schedule(Program(), session, times, given.policy, given.budget)
     schedule.make()
-    if given.summary:
-        put(summary(schedule))
-    else:
-        deck = session.text.split("\n")[: session.deck_end]
-        put("".join(f"{line}\n" for line in [*deck, *schedule.events, "end"]))
+    put(summary(schedule, account(schedule.followed(), times)) if given.summary else schedule.text())
     return 0
 
 

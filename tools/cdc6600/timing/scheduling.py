@@ -4,11 +4,11 @@ An event that the machine refuses changes nothing and isn't part of the schedule
 made that may have removed what it was refused for.
 """
 
-from cdc6600.drawing.following import Fault, Log
+from cdc6600.drawing.following import Fault, Following, Log, Session
 from cdc6600.limits import BANKS
 from cdc6600.operating.conversation import Conversation
 
-from .clock import ORDER, Clock
+from .clock import Clock
 from .course import Course
 from .requests import Requests
 
@@ -38,7 +38,7 @@ class Schedule:
 
     def __init__(self, program, session, times, policy=TIMED, budget=1000):
         self.program, self.session, self.policy, self.budget = program, session, policy, budget
-        self.clock = Clock(times, self.cause)
+        self.clock = Clock(times)
         # The cycle up to which parts may be ready. The greedy policy doesn't look at it.
         self.limit = NEVER if policy == GREEDY else 0
         self.course, self.requests = None, Requests(session.deck)
@@ -46,9 +46,16 @@ class Schedule:
         self.refused, self.places, self.asked = {}, {}, None
         self.talk = None
 
-    def cause(self, part):
-        """What a part that is ready waits for: its refusal, or the order of the schedule."""
-        return self.refused.get(part, ORDER)
+    def text(self):
+        """The session: the deck's lines, and after them those of the schedule."""
+        deck = self.session.text.split("\n")[: self.session.deck_end]
+        return "".join(f"{line}\n" for line in [*deck, *self.events, "end"])
+
+    def followed(self):
+        """The session as it is followed."""
+        following = Following(self.program, Session(self.session.file, self.text()), None, None)
+        following.follow()
+        return following
 
     # ---- the machine ----
 

@@ -17,9 +17,9 @@ def rows(work, waits):
     return [f"  {name:<{WIDTH}}{cycles:>9}" for name, cycles in found]
 
 
-def summary(schedule):
-    """The summary of a schedule that was made."""
-    clock, issued = schedule.clock, schedule.issued
+def summary(schedule, clock):
+    """The summary of a schedule that was made, with the clock of its session."""
+    issued = schedule.issued
     total = clock.issuing.ended
     rate = f"{issued / total:.3f}" if total else "none"
     waits, work, of_parts = Counter(), sum(part.work for part in clock.parts), 0
