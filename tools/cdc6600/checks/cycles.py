@@ -1,7 +1,7 @@
 """Tries what tools/timeline and tools/gallery draw by minor cycles.
 
 - A session with times that are given here is drawn as text, as a picture and as a page, and each mark has to be in the
-  cycle that was counted by hand.
+  cycle that was counted by hand. The picture of a page stays where it is at events of no reservation.
 - The page that compares two schedules of a deck has to say of each what `tools/schedule --summary` says, by each
   policy: the instructions, the cycles, and the waits with their causes.
 - tools/gallery writes the pages of sessions and decks that it is given.
@@ -75,6 +75,14 @@ def faults_of_page(words):
     data = json.loads(DATA.search(printed(TIMELINE, "--html", *words))[1])
     came = data["columns"]
     return [] if came == COUNTED else [f"the page has the cycles {came}, and should have {COUNTED}"]
+
+
+def faults_in_sight():
+    """Where the picture of a page moves at an event of no reservation that comes after one."""
+    steps = json.loads(DATA.search(printed(TIMELINE, "--html", session("one-bank").file))[1])["steps"]
+    moved = [f"the picture moves at {step['event']}" for before, step in zip(steps, steps[1:])
+             if step["event"].split(" ")[0] in ("bank", "end") and step["line"] != before["line"]]
+    return moved if len({step["line"] for step in steps}) > 1 else [*moved, "the picture never moves"]
 
 
 class Told:
@@ -163,6 +171,7 @@ def main():
         (folder / "times").write_text(TIMES, encoding="ascii")
         words = ["--cycles", "--times", folder / "times", session("conflicts").file]
         faults = [fault for work in (faults_of_text, faults_of_picture, faults_of_page) for fault in work(words)]
+        faults += faults_in_sight()
         for name in ("load-store", "subroutine"):
             faults += faults_of_comparison(folder, name)
         for work in (faults_of_gallery, faults_of_refusals):

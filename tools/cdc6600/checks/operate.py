@@ -2,7 +2,8 @@
 
 A whole session is driven on the terminal's screen and one by lines, each with events that are offered and typed,
 refused ones, events that are taken back, a line that is none, and a save. Values, past events, help, the completion of
-what is typed and the commands `next` and `through` are tried as well. What was answered on the way has to be what
+what is typed, the commands `next` and `through`, the keys that change a line, a terminal that is resized, and files
+that aren't written over are tried as well. What was answered on the way has to be what
 `cdc6600 events` answers to the saved session, and tools/timeline has to draw it. A run that is interrupted or ended by
 a signal has to leave the terminal as it was. A file that isn't there, a refused deck, a terminal that is too small or
 none, and a program that is missing or dies have to give one line and a status.
@@ -24,7 +25,7 @@ from cdc6600.shared.decks import deck
 from cdc6600.shared.program import ROOT, Program, tell
 from cdc6600.shared.waiting import Missing, run
 
-from .pseudo_terminal import Terminal
+from .pseudo_terminal import COLUMNS, LINES, Terminal
 
 OPERATE, TIMELINE = ROOT / "tools/operate", ROOT / "tools/timeline"
 DECK = deck("two-adds")
@@ -50,8 +51,7 @@ WANTED = [
 
 # What is typed for help, values, past events and further steps, with a part of what is then on the screen.
 HELPED = [
-    ("next", "Nothing is pending, and issue is refused: E1 halted stop."), ("ask 40", "ask 40 -> ok."),
-    ("next", "exchange -> ok."), ("next", "issue -> ok increment1 1."), ("issue", "issue -> ok increment2 2."),
+    ("next", "ask 40 -> ok."), ("next", "exchange -> ok."), ("next", "issue -> ok increment1 1."), ("issue", "issue -> ok increment2 2."),
     ("next", "read increment1 -> ok."), ("through increment1", "store increment1 -> ok. X1 becomes 5"),
     ("values", "*X1 00000000000000000005 5"), ("values", "X2 00000000000000000000 0"),
     ("past", "7 store increment1 ok"), ("past", "store increment1"), ("issue", "issue -> ok longadd 3."),
@@ -168,6 +168,8 @@ def helped(_program, _folder):
             if not options:
                 by_keys(terminal)
             terminal.type("quit\r")
+            terminal.wait("The events aren't saved.")
+            terminal.type("quit\r")
             faults += ended_as(terminal, 0, "", f"help with {options}")
     return faults
 
@@ -183,7 +185,52 @@ def by_keys(terminal):
     terminal.type("re")
     terminal.press("Tab", "Tab")
     terminal.wait("It may become: read add, read boolean")
-    terminal.type("\x7f\x7f")
+    terminal.type("ad longadd")
+    terminal.press("Left")
+    terminal.wait("A line is being typed: Enter carries it out, and Escape clears it.", "> read longadd")
+    terminal.press("Clear word")
+    terminal.wait("> read")
+    terminal.type("nothing")
+    terminal.press("Clear")
+    terminal.wait("Up, Down, Enter")
+    terminal.type("undo")
+    terminal.press("Escape")
+    terminal.wait("Up, Down, Enter")
+
+
+def resized(_program, _folder):
+    """Makes a terminal smaller than the screen takes, and large again; the faults."""
+    with closing(Terminal([OPERATE, DECK.file], {})) as terminal:
+        terminal.wait("after 0 events")
+        terminal.press("Right", "Right")
+        terminal.wait("exchange -> ok.", "> issue")
+        terminal.resize(70, 20)
+        terminal.wait_for_shown("The terminal is too small: it takes 80 columns and 24 lines.")
+        terminal.resize(COLUMNS, LINES)
+        terminal.press("Redraw")
+        terminal.wait("exchange -> ok.", "> issue", "Long Add -", "Reserved registers: none")
+        terminal.type("quit\rquit\r")
+        return ended_as(terminal, 0, "", "a terminal that is resized")
+
+
+def kept(_program, folder):
+    """Saves over a file, and through a link; the faults."""
+    other, link = folder / "other", folder / "link"
+    other.write_text("mine\n", encoding="ascii")
+    link.symlink_to(folder / "led-to")
+    with closing(Terminal([OPERATE, DECK.file], {})) as terminal:
+        for file in (other, link):
+            terminal.wait("after 0 events")
+            terminal.type(f"save {file}\r")
+            terminal.wait("Not saved:", "it is there already, and isn't written over.")
+        terminal.press("Right")
+        terminal.wait("ask 40 -> ok.")
+        terminal.type(f"save {folder}/new\r")
+        terminal.wait("Saved in")
+        terminal.type("quit\r")
+        faults = ended_as(terminal, 0, "", "files that are there")
+    is_kept = other.read_text(encoding="ascii") == "mine\n" and not (folder / "led-to").exists()
+    return faults + ([] if is_kept else ["a save writes over a file, or through a link"])
 
 
 def to_the_end(program, folder):
@@ -192,8 +239,9 @@ def to_the_end(program, folder):
     typed.write_text("ask 40\n" + 100 * "next\n" + "end\nquit\n", encoding="ascii")
     with typed.open() as lines:
         came = run([OPERATE, "--plain", it.file], stdin=lines, capture_output=True, text=True)
-    wanted = program.run(["run"], it.text).printed.decode()
-    return [] if wanted in came.stdout else [f"by next alone {it} comes to another end: {came.stdout[-600:]}"]
+    wanted, last = program.run(["run"], it.text).printed.decode(), "Nothing is pending, and issue is refused: E1 halted stop."
+    is_right = wanted in came.stdout and last in came.stdout
+    return [] if is_right else [f"by next alone {it} comes to another end: {came.stdout[-600:]}"]
 
 
 def taken_up(_program, folder):
@@ -281,7 +329,7 @@ def main():
     program, faults = Program(), []
     os.environ["CDC6600"] = program.path
     with tempfile.TemporaryDirectory() as folder:
-        for work in (on_screen, by_lines, helped, to_the_end, taken_up, interrupted, refused):
+        for work in (on_screen, by_lines, helped, resized, kept, to_the_end, taken_up, interrupted, refused):
             try:
                 faults += work(program, Path(folder))
             except Missing as fault:

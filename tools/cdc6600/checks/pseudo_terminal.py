@@ -19,7 +19,8 @@ from cdc6600.shared.waiting import Missing, finish, wait_until
 
 COLUMNS, LINES = 80, 24
 KEYS = {"Up": "\x1bA", "Down": "\x1bB", "Left": "\x1bD", "Enter": "\r", "Redraw": "\x0c", "Closed": "\x04",
-        "Interrupt": "\x03", "Right": "\x1bC", "Tab": "\t", "Earlier": "\x10"}
+        "Interrupt": "\x03", "Right": "\x1bC", "Tab": "\t", "Earlier": "\x10", "Escape": "\x1b", "Clear": "\x15",
+        "Clear word": "\x17"}
 
 
 class Screen:
@@ -88,7 +89,7 @@ class Terminal:
 
     def __init__(self, words, environment, kind="vt52", columns=COLUMNS, lines=LINES):
         self.name, (self.own, self.other) = " ".join(map(str, words)), pty.openpty()
-        fcntl.ioctl(self.own, termios.TIOCSWINSZ, struct.pack("HHHH", lines, columns, 0, 0))
+        self.resize(columns, lines)
         self.before, self.screen, self.written = termios.tcgetattr(self.other), Screen(), ""
         own = {**os.environ, **environment, "TERM": kind}
         for name in ("COLUMNS", "LINES", "ESCDELAY"):
@@ -97,6 +98,10 @@ class Terminal:
             words, stdin=self.other, stdout=self.other, stderr=subprocess.PIPE, env=own, start_new_session=True,
             preexec_fn=begin_session,
         )
+
+    def resize(self, columns, lines):
+        """Gives the terminal another size, which the program is told by a signal."""
+        fcntl.ioctl(self.own, termios.TIOCSWINSZ, struct.pack("HHHH", lines, columns, 0, 0))
 
     @property
     def is_as_before(self):
@@ -129,6 +134,12 @@ class Terminal:
             return f"{texts or 'a line to type'} on the screen, which shows {self.screen.said!r}"
 
         self.read_until(is_shown, what)
+
+    def wait_for_shown(self, text):
+        """Reads until a text is on the screen, whether a line may be typed or not.
+
+        Raises Missing if it doesn't come, or the program ends before."""
+        self.read_until(lambda: text in self.screen.said, lambda: f"{text!r} on {self.screen.said!r}")
 
     def wait_for_written(self, text):
         """Reads until the program has written a text, on a terminal of any kind.

@@ -43,21 +43,26 @@ class Page:
 
     def steps(self):
         """What each step shows, an event for each."""
-        return [self.step(n) for n in range(self.following.columns)]
+        return [self.step(n, self.form.line_of(row)) for n, row in enumerate(self.rows_in_sight())]
 
-    def step(self, n):
+    def step(self, n, line):
         """What is shown of an event: its line, its answer, the same in words, the panel after it, the values that it
-        has changed, and the row of the picture that it is about."""
+        has changed, and how far down in the picture the row stands that is in sight."""
         event, is_refused = self.following.session.events[n], self.following.is_refused(n)
         holds = holding(self.words.judge(n), event) if is_refused else []
         parts = Panel(self.words.judge(n + 1)).parts()
         return {"event": event, "answer": self.answer(n), "words": self.words.said(n), "refused": is_refused,
-                "holds": holds, "values": changes(self.values[n + 1], self.values[n]), "line": self.line(n), **parts}
+                "holds": holds, "values": changes(self.values[n + 1], self.values[n]), "line": line, **parts}
 
-    def line(self, n):
-        """How far down in the picture the last row stands that the event n has a mark in."""
-        marked = [row for row in range(len(self.following.rows)) if (row, n) in self.following.marks]
-        return self.form.line_of(max(marked, default=0))
+    def rows_in_sight(self):
+        """For each event the last row of the picture that it has a mark in. An event of no reservation, such as the
+        freeing of a bank, leaves the picture where it is."""
+        last, row = {}, 0
+        for marked, n in self.following.marks:
+            last[n] = max(marked, last.get(n, 0))
+        for n in range(self.following.columns):
+            row = last.get(n) or row
+            yield row
 
     def answer(self, n):
         """The answer to an event in a line. What the last line of a schedule prints stands at the page's end."""

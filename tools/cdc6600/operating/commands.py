@@ -10,7 +10,8 @@ from .phrases import near
 HELP = (
     "Type an event, as in docs/use/formats.md, or a command: next makes the event that a drain would make next, "
     "through UNIT takes a unit to its store event, values and past show the values and the past events, undo takes "
-    "the last event back, save FILE writes the deck and the events as a session, quit ends."
+    "the last event back, save FILE writes the deck and the events as a session, quit ends; if events aren't saved, the "
+    "second quit does."
 )
 OVER = "The session is at its end. undo takes its last event back, save FILE saves it, quit ends."
 # What may be shown instead of the machine.
@@ -23,15 +24,20 @@ class Quit(Exception):
 
 class Commands:
     """Carries out what is typed, on an operation. A file that is named once is that of later saves too. `pane` is what
-    is shown instead of the machine, or none."""
+    is shown instead of the machine, or none. `is_saved_at_end` says that the events are saved when the operation ends,
+    and `is_warned` that the last command was a `quit` with events that aren't saved."""
 
     def __init__(self, operation, file):
         self.operation, self.file, self.pane = operation, file, None
+        self.is_saved_at_end, self.is_warned = bool(file), False
 
     def carry_out(self, typed):
         """Carries out a line; what is said of it. Raises Quit at the end, and Fault where the program fails."""
         line = " ".join(typed.split())
         word, _, rest = line.partition(" ")
+        if line == "quit":
+            return self.quit()
+        self.is_warned = False
         if word == "save":
             return self.save(rest)
         if word == "through":
@@ -39,8 +45,7 @@ class Commands:
         if line in PANES:
             return self.turn(line)
         commands = {
-            "undo": self.undo, "quit": self.quit, "next": self.next, "help": lambda: HELP, "?": lambda: HELP,
-            "": self.operation.said,
+            "undo": self.undo, "next": self.next, "help": lambda: HELP, "?": lambda: HELP, "": self.operation.said,
         }
         return commands[line]() if line in commands else self.make(line)
 
@@ -105,7 +110,9 @@ class Commands:
         self.file = file
         return f"Saved in {ascii(file)[1:-1]}, {self.operation.progress}."
 
-    @staticmethod
-    def quit():
-        """Ends the operation."""
-        raise Quit
+    def quit(self):
+        """Ends the operation. If events would be lost, the second one does."""
+        if self.is_warned or self.is_saved_at_end or self.operation.is_saved:
+            raise Quit
+        self.is_warned = True
+        return "The events aren't saved. save FILE saves them; quit once more ends without."

@@ -28,6 +28,12 @@ class Offer:
     refusal: Refusal | None
 
 
+def identity(file):
+    """What tells a file from others, and a link from the file that it leads to."""
+    found = os.lstat(file)
+    return found.st_dev, found.st_ino
+
+
 class Operation:
     """A session that grows by an event at a time. Its program answers each one, and an event is taken back by a new run
     of the schedule without it."""
@@ -44,6 +50,8 @@ class Operation:
         self.package = re.search(r"^start ([0-7]+)$", self.deck, re.MULTILINE)
         self.conversation = None
         self.replay([event for event in given.events if event not in ENDS])
+        # The events that a file has, and which file was written last.
+        self.saved, self.written = list(self.events), None
 
     def replay(self, events):
         """Begins anew, and makes these events."""
@@ -60,6 +68,11 @@ class Operation:
     def events(self):
         """The events made so far, refused ones too."""
         return self.following.session.events
+
+    @property
+    def is_saved(self):
+        """Whether a file has the events as they are."""
+        return self.events == self.saved
 
     @property
     def progress(self):
@@ -115,14 +128,21 @@ class Operation:
 
     def next_event(self):
         """The event that a drain would make next: that of the oldest reservation, or the freeing of the bank that it
-        waits for. With nothing pending it is the exchange that is asked for, or else an issue. None where it would be
-        refused."""
+        waits for. With nothing pending it is the exchange that is asked for, or else an issue; on a machine that was
+        just booted the request for the deck's package. None where it would be refused."""
         judge, state = self.judge, self.states[-1]
+        if self.following.log.text == "none" and not state.asked:
+            return self.first_request
         if not state.pending:
             return next((event for event in ("exchange", "issue") if not judge.refusal(event)), None)
         event, _ = next(self.steps(state))
         refusal = judge.refusal(event)
         return f"bank {refusal.named}" if refusal and refusal.code == "E13" else event
+
+    @property
+    def first_request(self):
+        """The request for the package of the deck's start line."""
+        return f"ask {self.package[1].lstrip('0') or '0'}"
 
     def step_of(self, unit):
         """The event that the reservation of a unit is to make next, or none."""
@@ -142,8 +162,7 @@ class Operation:
         """Each event that some part of the machine has to do now, with what it is about."""
         state = self.states[-1]
         asked = [("exchange", f"with the package at {state.asked}")] if state.asked else []
-        package = self.package[1].lstrip("0") or "0"
-        request = [] if state.asked else [(f"ask {package}", "the package of the deck's start line")]
+        request = [] if state.asked else [(self.first_request, "the package of the deck's start line")]
         halted = request if state.halt != RUNNING else []
         running = [] if halted else request
         ends = [("drain", "carries out all that is pending, and ends"), ("end", "ends the schedule as it is")]
@@ -169,9 +188,11 @@ class Operation:
         return [(f"bank {bank}", "is busy") for bank in sorted(state.banks)]
 
     def check_target(self, file):
-        """Raises Fault where a file is the deck, or stands in no folder."""
+        """Raises Fault where a file is there that this operation hasn't written, or it would stand in no folder."""
         if Path(file).exists() and Path(file).samefile(self.file):
             raise Fault(file, "it is the deck itself, and isn't written over")
+        if os.path.lexists(file) and identity(file) != self.written:
+            raise Fault(file, "it is there already, and isn't written over")
         if not Path(file).parent.is_dir():
             raise Fault(file, os.strerror(errno.ENOENT))
 
@@ -179,8 +200,12 @@ class Operation:
         """Writes the deck and the events as a session. Raises Fault where that can't be done."""
         self.check_target(file)
         events = self.events if self.is_over else [*self.events, "end"]
+        text = (self.deck + "".join(f"{event}\n" for event in events)).encode("latin-1")
         try:
-            Path(file).write_bytes((self.deck + "".join(f"{event}\n" for event in events)).encode("latin-1"))
+            # What nobody has written yet is made anew, and never through a link.
+            with open(file, "wb" if os.path.lexists(file) else "xb") as target:
+                target.write(text)
+            self.saved, self.written = list(self.events), identity(file)
         except OSError as fault:
             raise Fault(file, fault.strerror) from None
         except ValueError:

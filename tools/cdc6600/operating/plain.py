@@ -1,16 +1,12 @@
 """Drives a machine by lines."""
 
+import importlib
 import sys
+from contextlib import suppress
 
 from .board import board, offered, wrapped
 from .commands import Quit
 from .phrases import completions
-
-try:
-    import readline
-except ImportError:
-    readline = None
-
 
 PROMPT = "> "
 # So that a line is completed by the tab key, and a terminal gets no sequences that it may not know.
@@ -47,8 +43,12 @@ class Plain:
                 print(*wrapped(said), sep="\n")
 
     def begin_lines(self):
-        """Has the lines of a terminal completed, and kept to be typed again."""
-        if readline and self.is_terminal:
+        """Has the lines of a terminal completed, and kept to be typed again. `readline` isn't imported where nobody types
+        lines, since it takes the signal of a terminal that is resized, which the whole screen needs."""
+        if not self.is_terminal:
+            return
+        with suppress(ImportError):
+            readline = importlib.import_module("readline")
             readline.set_completer_delims("")
             readline.set_completer(self.completion)
             for binding in BINDINGS:

@@ -1,6 +1,8 @@
 """Drives a machine on a whole terminal."""
 
 import curses
+import os
+import sys
 
 from cdc6600.drawing.following import Fault
 
@@ -10,6 +12,7 @@ from .phrases import completed
 
 LINES = 24
 KEYS = "Up, Down, Enter: make one. Left: undo. Right: next. Tab completes. ?: help"
+TYPING = "A line is being typed: Enter carries it out, and Escape clears it."
 # How often a key is read anew where none came.
 TRIES = 100
 # By how many lines the past events are scrolled at once.
@@ -17,6 +20,8 @@ PAGE = 8
 ENTER = ("\n", "\r", curses.KEY_ENTER)
 ERASE = ("\b", "\x7f", curses.KEY_BACKSPACE)
 CLOSED, REDRAW, COMPLETE = "\x04", "\x0c", "\t"
+# The keys that clear the line that is typed, and its last word: Escape, Ctrl-U and Ctrl-W.
+CLEAR, CLEAR_WORD = ("\x1b", "\x15"), "\x17"
 # The keys that bring back a line typed before, and one typed after it.
 EARLIER, LATER = "\x10", "\x0e"
 
@@ -60,20 +65,31 @@ class Screen:
         elif key in ENTER:
             self.carry_out(self.typed or (self.offers[self.chosen].event if self.offers else ""))
         elif key in (curses.KEY_LEFT, curses.KEY_RIGHT):
-            self.carry_out("undo" if key == curses.KEY_LEFT else "next")
+            self.step("undo" if key == curses.KEY_LEFT else "next")
         elif key in (curses.KEY_PPAGE, curses.KEY_NPAGE):
             self.scrolled = max(self.scrolled + (PAGE if key == curses.KEY_PPAGE else -PAGE), 0)
         elif key == CLOSED:
-            raise Quit
+            self.carry_out("quit")
+        elif key in (REDRAW, curses.KEY_RESIZE):
+            self.window.clear()
         else:
             self.edit(key)
 
+    def step(self, command):
+        """Goes a step on or back, unless a line is being typed."""
+        if self.typed:
+            self.said = TYPING
+        else:
+            self.carry_out(command)
+
     def edit(self, key):
-        """Changes the line that is typed, or draws everything anew."""
+        """Changes the line that is typed."""
         if key in ERASE:
             self.typed = self.typed[:-1]
-        elif key == REDRAW:
-            self.window.clear()
+        elif key in CLEAR:
+            self.typed = ""
+        elif key == CLEAR_WORD:
+            self.typed = self.typed.rstrip(" ").rpartition(" ")[0]
         elif key == COMPLETE:
             self.complete()
         elif key in (EARLIER, LATER):
@@ -103,7 +119,11 @@ class Screen:
         self.offers, self.chosen = self.operation.offers(), 0
 
     def draw(self):
-        """Draws everything, or that the terminal is too small."""
+        """Draws everything, or that the terminal is too small. The signal that tells of another size can come just
+        before a key is awaited, and then curses doesn't know of it yet."""
+        width, height = os.get_terminal_size(sys.stdout.fileno())
+        if curses.is_term_resized(height, width):
+            curses.resizeterm(height, width)
         self.window.erase()
         height, width = self.window.getmaxyx()
         if height < LINES or width < WIDTH:

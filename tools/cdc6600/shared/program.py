@@ -13,6 +13,8 @@ ROOT = Path(__file__).resolve().parents[3]
 # The program of these tools: in a checkout the one that is built, otherwise the one that tools/install put beside them.
 IS_CHECKOUT = (ROOT / "crates.txt").is_file()
 BUILT = ROOT / ("crates/operator_main/out/operator_main" if IS_CHECKOUT else "../../../bin/cdc6600")
+# What `./cdc6600 --unproved` has built of the same sources without their proof.
+UNPROVED = BUILT.with_name(f"{BUILT.name}.unproved")
 
 
 # How many bytes of a log go into an argument. Linux takes at most 131,071.
@@ -47,11 +49,21 @@ def named_program():
     return os.environ.get("CDC6600") or None
 
 
+def is_current(file):
+    """Whether an executable of a checkout is that of the sources as they are."""
+    return file.exists() and not subprocess.run([ROOT / "tools/source-sum", "--of", f"{file}.sources"], check=False).returncode
+
+
 def program_path():
     """The program that CDC6600 names; otherwise the one that is installed with the tools, if they are; otherwise the
-    one that `./cdc6600` runs, which is built first if its sources have changed. What is run then is the executable,
-    without the script's look at the sources at each run."""
-    if IS_CHECKOUT and not named_program():
+    one that `./cdc6600` runs. If that isn't built of the sources as they are, it is the unproved one, which is told, or
+    else the program is built first. What is run is the executable, without the script's look at the sources at each
+    run."""
+    if IS_CHECKOUT and not named_program() and not is_current(BUILT):
+        if is_current(UNPROVED):
+            told = "UNPROVED: what runs is built from the sources without their proof"
+            print(f"{sys.argv[0]}: {told}", file=sys.stderr, flush=True)
+            return str(UNPROVED)
         if not BUILT.exists():
             told = "proving and building the program first, which takes some ten minutes"
             print(f"{sys.argv[0]}: {told}; CDC6600=FILE names another executable", file=sys.stderr, flush=True)
