@@ -58,6 +58,9 @@ HELPED = [
     ("through longadd", "read longadd would be refused: E9 operand awaited X2."),
     ("through lngadd", "Do you mean through longadd?"), ("through shift", "Shift isn't reserved."),
     ("undp", "Do you mean undo?"), ("?", "through UNIT takes a unit to its store event"),
+    ("u 2", "Taken back: issue, store increment1."), ("until X1", "store increment1 -> ok. X1 becomes 5"),
+    ("until refused", "issue -> ok longadd 3."), ("undo 0", "Say how often, from 1 to 1000: undo 5, for example."),
+    ("until 777777", "Say until when: until X6, until refused, or until 110 for a word that the deck shows."),
 ]
 
 ANSWERED = re.compile(r"((?:issue|exchange|drain|(?:ask|read|finish|store|accept) \w+)) -> ([^.]*)\.")

@@ -8,11 +8,16 @@ from cdc6600.drawing.instructions import NAMES, UNITS
 from .phrases import near
 
 HELP = (
-    "Type an event, as in docs/use/formats.md, or a command: next makes the event that a drain would make next, "
-    "through UNIT takes a unit to its store event, values and past show the values and the past events, undo takes "
-    "the last event back, save FILE writes the deck and the events as a session, quit ends; if events aren't saved, the "
-    "second quit does."
+    "Type an event, as in docs/use/formats.md, or a command: next makes the event that a drain would make next, undo "
+    "takes the last one back, and next 5 and undo 5 five of them; through UNIT takes a unit to its store event, until X6 "
+    "makes next events until X6 has another value, until 110 until that word has, and until refused issues until an "
+    "issue would be refused; values and past show the values and the past events, save FILE writes the deck and the "
+    "events as a session, quit ends; if events aren't saved, the second quit does. n, u and q are next, undo and quit."
 )
+# What may be typed for a command.
+SHORT = {"n": "next", "u": "undo", "q": "quit"}
+# The most events of one command.
+MOST = 1000
 OVER = "The session is at its end. undo takes its last event back, save FILE saves it, quit ends."
 # What may be shown instead of the machine.
 VALUES, PAST = PANES = ("values", "past")
@@ -33,8 +38,9 @@ class Commands:
 
     def carry_out(self, typed):
         """Carries out a line; what is said of it. Raises Quit at the end, and Fault where the program fails."""
-        line = " ".join(typed.split())
-        word, _, rest = line.partition(" ")
+        word, *words = typed.split() or [""]
+        word, rest = SHORT.get(word, word), " ".join(words)
+        line = f"{word} {rest}".rstrip(" ")
         if line == "quit":
             return self.quit()
         self.is_warned = False
@@ -42,6 +48,10 @@ class Commands:
             return self.save(rest)
         if word == "through":
             return self.through(rest)
+        if word == "until":
+            return self.until(rest)
+        if word in ("next", "undo") and rest:
+            return self.repeat(word, rest)
         if line in PANES:
             return self.turn(line)
         commands = {
@@ -66,6 +76,35 @@ class Commands:
         if event is None:
             return f"Nothing is pending, and issue is refused: {self.operation.judge.refusal('issue').answer}."
         return self.make(event)
+
+    def repeat(self, word, count):
+        """Makes so many next events, or takes so many back."""
+        if not count.isdecimal() or not 0 < int(count) <= MOST:
+            return f"Say how often, from 1 to {MOST}: {word} 5, for example."
+        if word == "undo":
+            return self.undo(int(count))
+        return self.go_on(lambda made: made == int(count))
+
+    def until(self, what):
+        """Makes next events until a value has changed, or issues until an issue would be refused."""
+        if what == "refused":
+            return self.go_on(lambda _: self.operation.judge.refusal("issue"), issues=True)
+        name, before = self.operation.name_of(what), self.operation.values()
+        if name not in before:
+            return "Say until when: until X6, until refused, or until 110 for a word that the deck shows."
+        return self.go_on(lambda made: self.operation.values()[name] != before[name])
+
+    def go_on(self, is_end, issues=False):
+        """Makes events, the next ones or issues, until a condition holds, by how many were made; none may be left, and
+        there are at most so many."""
+        for made in range(MOST):
+            if is_end(made):
+                return self.operation.said()
+            event = None if self.operation.is_over else "issue" if issues else self.operation.next_event()
+            if event is None:
+                return self.next()
+            self.operation.make(event)
+        return f"These are {MOST} events. {self.operation.said()}"
 
     def through(self, unit):
         """Takes a unit to its store event, or as far as it may go."""
@@ -92,11 +131,11 @@ class Commands:
         self.operation.make(event)
         return self.operation.said()
 
-    def undo(self):
-        """Takes the last event back."""
+    def undo(self, count=1):
+        """Takes the last events back."""
         if not self.operation.events:
             return "There is no event to take back."
-        return f"Taken back: {self.operation.take_back()}. {self.operation.said()}"
+        return f"Taken back: {', '.join(self.operation.take_back(count))}. {self.operation.said()}"
 
     def save(self, named):
         """Saves the session. What keeps it from being written is told, and nothing else happens."""

@@ -96,11 +96,11 @@ class Operation:
         self.following.take(event, answers)
         self.states.append(self.states[-1].after(self.following, len(self.events) - 1))
 
-    def take_back(self):
-        """Takes the last event back; its line."""
-        event = self.events[-1]
-        self.replay(self.events[:-1])
-        return event
+    def take_back(self, count=1):
+        """Takes so many of the last events back; their lines, the last one first."""
+        events = self.events[:-count], self.events[-count:]
+        self.replay(events[0])
+        return events[1][::-1]
 
     def said(self):
         """The last event, its answer and what it means, or that there was none."""
@@ -119,6 +119,15 @@ class Operation:
         """A line for each event so far, with its number and its answer."""
         answers = ["the dump" if it.startswith("P ") else it for it in self.following.answers]
         return [f"{n:>4} {event:<18} {answer}" for n, (event, answer) in enumerate(zip(self.events, answers), 1)]
+
+    def values(self):
+        """The values now."""
+        return values_of(self.judge)
+
+    @staticmethod
+    def name_of(typed):
+        """The name of a value: that of a register, or the address of a word."""
+        return f"{int(typed, 8):06o}" if re.fullmatch("[0-7]{1,6}", typed) else typed.upper()
 
     def value_lines(self):
         """The values now in lines, those that the last event has changed with a mark."""
