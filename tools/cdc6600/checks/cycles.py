@@ -38,6 +38,8 @@ MARKS = {
 }
 # The letters of a label and of a column in this text.
 LABEL, COLUMN = 24, 5
+# The rows of the page of two schedules that come first.
+COUNTS = ("Instructions", "Minor cycles", "Instructions a minor cycle")
 TD = re.compile(r'<tr><th scope="row">([^<]*)</th><td>([^<]*)</td><td>([^<]*)</td></tr>')
 
 
@@ -110,8 +112,9 @@ def told_by_page(files):
     rows = TD.findall(printed(TIMELINE, "--html", "--compare", *files))
     counts = {name: values for name, *values in rows}
     for at in range(len(files)):
-        waits = [(name.removeprefix("· "), values[at], not name.startswith("· ")) for name, *values in rows[3:]]
-        yield Told(tuple(counts[name][at] for name in ("Instructions", "Minor cycles", "Instructions a minor cycle")), waits)
+        waits = [(name.removeprefix("· "), values[at], not name.startswith("· "))
+                 for name, *values in rows[len(COUNTS) :]]
+        yield Told(tuple(counts[name][at] for name in COUNTS), waits)
 
 
 def faults_of_comparison(folder, name):

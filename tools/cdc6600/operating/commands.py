@@ -9,10 +9,11 @@ from .phrases import near
 
 HELP = (
     "Type an event, as in docs/use/formats.md, or a command: next makes the event that a drain would make next, undo "
-    "takes the last one back, and next 5 and undo 5 five of them; through UNIT takes a unit to its store event, until X6 "
-    "makes next events until X6 has another value, until 110 until that word has, and until refused issues until an "
-    "issue would be refused; values and past show the values and the past events, save FILE writes the deck and the "
-    "events as a session, quit ends; if events aren't saved, the second quit does. n, u and q are next, undo and quit."
+    "takes the last one back, and next 5 and undo 5 five of them; through UNIT takes a unit to its store event, until "
+    "X6 makes next events until X6 has another value, until 110 until that word has, and until refused issues until "
+    "an issue would be refused; values and past show the values and the past events, save FILE writes the deck and "
+    "the events as a session, quit ends; if events aren't saved, the second quit does. n, u and q are next, undo and "
+    "quit."
 )
 # What may be typed for a command.
 SHORT = {"n": "next", "u": "undo", "q": "quit"}

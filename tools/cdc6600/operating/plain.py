@@ -43,8 +43,8 @@ class Plain:
                 print(*wrapped(said), sep="\n")
 
     def begin_lines(self):
-        """Has the lines of a terminal completed, and kept to be typed again. `readline` isn't imported where nobody types
-        lines, since it takes the signal of a terminal that is resized, which the whole screen needs."""
+        """Has the lines of a terminal completed, and kept to be typed again. `readline` isn't imported where nobody
+        types lines, since it takes the signal of a terminal that is resized, which the whole screen needs."""
         if not self.is_terminal:
             return
         with suppress(ImportError):

@@ -51,7 +51,8 @@ def named_program():
 
 def is_current(file):
     """Whether an executable of a checkout is that of the sources as they are."""
-    return file.exists() and not subprocess.run([ROOT / "tools/source-sum", "--of", f"{file}.sources"], check=False).returncode
+    words = [ROOT / "tools/source-sum", "--of", f"{file}.sources"]
+    return file.exists() and not subprocess.run(words, check=False).returncode
 
 
 def program_path():
