@@ -96,8 +96,8 @@ class Commands:
         return self.go_on(lambda made: self.operation.values()[name] != before[name])
 
     def go_on(self, is_end, issues=False):
-        """Makes events, the next ones or issues, until a condition holds, by how many were made; none may be left, and
-        there are at most so many."""
+        """Makes next events, or issues, until a condition on the number that it has made holds, or no event is left. It
+        makes at most `MOST`."""
         for made in range(MOST):
             if is_end(made):
                 return self.operation.said()
