@@ -216,7 +216,7 @@ impl State {
             self.halt = Some(Halt::Illegal(parcel));
             return;
         }
-        if op == 0 {
+        if op == 0o00 {
             self.halt = Some(Halt::Stop);
             return;
         }

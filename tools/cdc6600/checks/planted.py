@@ -3,7 +3,8 @@
 from dataclasses import dataclass
 
 REFERENCE, STORE, BY_B = r"SA[1-7] |RJ ", r"SA[67] |RJ ", r"[AL]X\d B"
-EXCHANGE, FETCH = "the exchange ", "the fetch "
+EXCHANGE, FETCH, WRITE = "the exchange ", "the fetch ", "a peripheral processor's write "
+LOAD, ANY = r"SA[1-5] ", ""
 
 
 @dataclass(frozen=True)
@@ -56,6 +57,7 @@ PLANTED = (
     Planted("a rotation isn't taken modulo 60", "count % 60", "count % 63", r"[AL]X"),
     Planted("a nominal shift has five bits", "magnitude % 64", "magnitude % 32", BY_B),
     Planted("a long right shift keeps the sign", "magnitude > 63", "magnitude > 127", BY_B),
+    Planted("a right shift looks at five more bits of its count", "magnitude > 63", "magnitude >> 6 & 31 != 0", BY_B),
     Planted("a mask has at most 59 ones", "jk.min(60)", "jk.min(59)", r"MX"),
     Planted("the lowest one isn't counted", "self.x[k].count_ones()", "(self.x[k] >> 1).count_ones()", r"CX"),
     Planted(
@@ -78,22 +80,62 @@ PLANTED = (
         "a load ignores RA",
         "self.load(address)",
         "self.memory.get(address as usize).copied().unwrap_or(0)",
-        r"SA[1-5] ",
+        LOAD,
+    ),
+    Planted(
+        "a load out of range brings the memory's first word",
+        "self.out_of_range();\n                0",
+        "self.out_of_range(); self.memory[0]",
+        LOAD,
     ),
     Planted("the word at FL is in range", "address < self.fl", "address <= self.fl", rf"{REFERENCE}|{FETCH}"),
     Planted("no fault is set", "self.fault = true;", "self.fault = false;", REFERENCE),
     Planted("a fault is set in any mode", "self.mode >> 12 & 1 == 1", "self.mode > 0", REFERENCE),
+    Planted(
+        "a fetch out of range is a fault",
+        "self.halt = Some(Halt::Fetch);",
+        "self.halt = Some(Halt::Fetch); self.out_of_range();",
+        FETCH,
+    ),
+    Planted(
+        "a fault is gone with the next instruction",
+        "self.held = Some(word);",
+        "self.held = Some(word); self.fault = false;",
+        ANY,
+    ),
+    Planted("a fault is gone with the next load", "self.load(address)", "self.fault = false; self.load(address)", LOAD),
     Planted("a return jump leads back to itself", "u64::from(next) << 30", "u64::from(self.p) << 30", r"RJ "),
     Planted("RA and FL are swapped", "(upper(1), upper(2), upper(3))", "(upper(2), upper(1), upper(3))", EXCHANGE),
     Planted("two X registers of a package are swapped", "incoming[8 + n]", "incoming[8 + (n ^ 1)]", EXCHANGE),
     Planted("a package doesn't tell of a fault", "2 * u32::from(self.fault)", "0 * u32::from(self.fault)", EXCHANGE),
+    Planted(
+        "a package tells of a fault and not of the halt",
+        "u32::from(self.halt.is_some())",
+        "u32::from(self.halt.is_some() && !self.fault)",
+        EXCHANGE,
+    ),
+    Planted(
+        "a package tells of a halt and not of the fault",
+        "2 * u32::from(self.fault)",
+        "2 * u32::from(self.fault && self.halt.is_none())",
+        EXCHANGE,
+    ),
     Planted("011 is a return jump", "op == 0o01 && i != 0", "op == 0o01 && i > 1", r"\?011"),
+    Planted("011 crosses a word's end", "op == 0o01 && i != 0", "op == 0o01 && i != 0 && self.parcel < 3", r"\?011"),
+    Planted("a stop has no other bits", "op == 0o00", "parcel == 0", r"PS"),
     Planted("an instruction may cross a word's end", "self.parcel == 3", "self.parcel == 4", r"\?straddle"),
     Planted(
         "a stop goes on to the next word",
         "self.halt = Some(Halt::Stop);",
         "self.halt = Some(Halt::Stop); self.p += 1;",
         r"PS",
+    ),
+    Planted(
+        "a peripheral write changes the held word",
+        "self.memory[octal(at) as usize] = octal(word);",
+        "self.memory[octal(at) as usize] = octal(word); "
+        "if self.held.is_some() && self.absolute(self.p) == Some(octal(at) as usize) { self.held = Some(octal(word)) }",
+        WRITE,
     ),
     Planted("P goes on in 17 bits", "(self.p + 1) & ONES18", "(self.p + 1) & 0o377777", r"RJ |NO"),
     Planted("a jump has 17 bits", "self.p = to;", "self.p = to & 0o377777;", rf"JP |RJ |[A-Z]{{2}} [BX]\d,|{EXCHANGE}"),

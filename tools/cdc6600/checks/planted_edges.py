@@ -157,9 +157,17 @@ def of_target(code, name):
     return effect_of(code, filled(code, computed_by(code)), K=taken_for("address", f"address == {edge}", instead))
 
 
+def with_unused(code, field):
+    """What is done instead if an unused field isn't 0."""
+    right = f"{LINK} self.jump((address + 1) & ONES18)" if code == RETURN_JUMP else effect_of(code, computed_by(code))
+    return f"if {field} != 0 {{ {done_instead(code)} }} else {{ {right} }}"
+
+
 def done_at(code, edge):
     """What is done instead at an edge of a row."""
     part, name = edge.split(" ")
+    if part == "unused":
+        return f"if {name} != 0 {{ {done_instead(code)} }}" if code == PASS else with_unused(code, name)
     if code == RETURN_JUMP:
         return RETURNING[edge].replace("{link}", LINK)
     if part == "jump":
@@ -185,6 +193,8 @@ def done_instead(code):
     return effect_of(code, filled(code, other))
 
 
-AT_EDGES = tuple(AtEdge(code, "", done_instead(code)) for code in ROWS if code != STOP) + tuple(
-    AtEdge(code, edge, done_at(code, edge)) for code, row in ROWS.items() for edge in edges_of(row)
+# A stop halts before the interpreter's arms, so its faults are in planted.py.
+IN_ARMS = {code: row for code, row in ROWS.items() if code != STOP}
+AT_EDGES = tuple(AtEdge(code, "", done_instead(code)) for code in IN_ARMS) + tuple(
+    AtEdge(code, edge, done_at(code, edge)) for code, row in IN_ARMS.items() for edge in edges_of(row)
 )

@@ -18,6 +18,9 @@ INDEFINITE = ("1777", "6000")
 RETURN_JUMP, JUMP, ON_WORDS, ON_INDEXES = "010", "02", "03", ("04", "05", "06", "07")
 ON_UPPER_BITS, NOMINAL, COUNT_OF_ONES = ("034", "035", "036", "037"), ("22", "23"), "47"
 REFERRING, TO_B, INCREMENTS = "5", "6", "567"
+# The fields of the first parcel that an instruction doesn't use, and the position of each in its five digits.
+UNUSED = {"00": "ijk", "010": "j", "02": "j", "10": "k", "14": "j", "46": "ijk", "47": "j"}
+POSITIONS = {"i": 2, "j": 3, "k": 4}
 TARGETS = {0: "0", INDEX_ONES: "777777"}
 # The parcel of an instruction of two parcels that is the last one of its word.
 LAST_OF_TWO = 2
@@ -63,9 +66,10 @@ def edges_of_operand(row, operand):
 
 def edges_of(row):
     """The names of all edges that can occur for a row of the instruction table."""
+    unused = names("unused", UNUSED.get(row.code, ()))
     if row.code == RETURN_JUMP:
-        return (*names("K", TARGETS.values()), "P+1 400000", *names("store", ("in", "out", "own")))
-    found = [edge for operand in row.operands for edge in edges_of_operand(row, operand)]
+        return (*names("K", TARGETS.values()), "P+1 400000", *names("store", ("in", "out", "own")), *unused)
+    found = [edge for operand in row.operands for edge in edges_of_operand(row, operand)] + unused
     if is_branch(row):
         return (*found, *names("jump", ("yes", "no")), *names("to", TARGETS.values()))
     if row.code == JUMP:
@@ -104,6 +108,10 @@ class Shown:
         if code[0] in INCREMENTS:
             return [OF_INDEXES.get(value & INDEX_ONES)]
         return [OF_WORDS.get(value), f"{value >> 48:04o}"]
+
+    def unused(self):
+        """The unused fields that aren't 0."""
+        return [f"unused {it}" for it in UNUSED.get(self.row.code, ()) if self.issue.digits[POSITIONS[it]] != "0"]
 
     def jump(self):
         """The edges of where the program goes on."""
@@ -144,4 +152,4 @@ class Shown:
         """The names of the edges that it shows."""
         found = [f"{name} {edge}" for name in self.row.operands for edge in self.operand(name)]
         found += self.jump() if self.row.unit == "Branch" else self.result()
-        return set(found + self.reference()) & set(edges_of(self.row))
+        return set(found + self.unused() + self.reference()) & set(edges_of(self.row))

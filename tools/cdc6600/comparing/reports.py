@@ -39,15 +39,25 @@ class Issue:
         return at if address < self.dump.number("FL") and at < self.dump.size else None
 
     @property
+    def word(self):
+        """The word that it is issued from, or none if that would have to be fetched out of range."""
+        held = self.dump.state["HELD"]
+        if held != NO_WORD:
+            return held
+        return None if self.address is None else self.dump.word(self.address)
+
+    @property
     def text(self):
         """The instruction's text as `list` has it, or what is done instead of issuing one."""
         if self.dump.state["HALT"] != RUNNING:
             return HALTED
-        held = self.dump.state["HELD"]
-        if held == NO_WORD and self.address is None:
-            return UNFETCHED
-        word = self.dump.word(self.address) if held == NO_WORD else held
-        return items_of(word)[self.dump.number("PARCEL")]
+        return items_of(self.word)[self.dump.number("PARCEL")] if self.word else UNFETCHED
+
+    @property
+    def digits(self):
+        """The five digits of its first parcel."""
+        parcel = 5 * self.dump.number("PARCEL")
+        return self.word[parcel : parcel + 5]
 
     @property
     def at(self):

@@ -52,8 +52,14 @@ class Ending:
         self.code.add(Parcel(int(digits, 8)))
         return self.code.issued
 
+    def fault_mode(self):
+        """At times the mode in which references out of range are faults. Fetches out of range are none."""
+        if self.draws.chance(0.5):
+            self.job.package.em |= ADDRESS_BIT
+
     def end_of_field(self):
         """The fetch of the word after the field's last one."""
+        self.fault_mode()
         self.short(0)
         return self.code.issued + 1
 
