@@ -2,7 +2,7 @@
 well.
 
 Each edit below is handed to the runner as a wrong body. Those of REFUSED are wrong. Each of TOLD has to be told, in a
-line that says what is amiss: among them are right bodies in other words. Of those of UNSURE it can't tell.
+line that says what is amiss: among them are right bodies in other words. Of those of UNSURE the prover can't tell.
 
 Run it after a change of it, or of the kit.
 """
@@ -15,13 +15,15 @@ from pathlib import Path
 
 from cdc6600.crates.source import Sources
 from cdc6600.crates.table import Table
+from cdc6600.refuting.cases import Ran
+from cdc6600.refuting.choosing import with_bodies
 from cdc6600.shared.program import ROOT
 from cdc6600.wrong_bodies.assumed import as_proved, assumed
 from cdc6600.wrong_bodies.copies import beside, can_stand_beside, copied, copy_of
 from cdc6600.wrong_bodies.groups import clash, grouped, reached
 from cdc6600.wrong_bodies.opening import Opening, opened
 from cdc6600.wrong_bodies.second import after_one
-from cdc6600.wrong_bodies.edits import merged, read_bodies
+from cdc6600.wrong_bodies.edits import EQUIVALENT, UNSURE as NOT_SURE, merged, read_bodies, read_body
 from cdc6600.wrong_bodies.libraries import stamps
 from cdc6600.wrong_bodies.verdicts import CANT_TELL, REFUSED as IS_REFUSED, is_of, outcome_of
 from cdc6600.wrong_bodies.written import resting, without
@@ -295,6 +297,32 @@ class Reading(unittest.TestCase):
             self.assertIn(wrong, library[library.index(name) :])
         proof = texts["proofs/two_more_wrong_0/Answers.antt"]
         self.assertEqual(proof, PROOF.replace("tiny.proofs.two_more.", "tiny.proofs.two_more_wrong_0."))
+
+    def test_each_body_is_behind_its_number(self):
+        chosen = with_bodies(self.source, self.bodies)
+        self.assertEqual((sorted(chosen.numbers), chosen.left), (sorted(REFUSED), []))
+        number = chosen.numbers["larger_of_two"]
+        arm = f"{{\nif crate::chosen_body() == {number} {{\n    if a < b {{ b }} else {{ a }}\n}} else\n{{\n"
+        self.assertIn(f"{arm}    if a < b {{ a }} else {{ b }}\n}}\n}}", chosen.texts["src/lib.rt"])
+
+    def test_first_difference_is_told(self):
+        right = Ran(0, b"ok\nE1 halted\n", b"")
+        for came, told in (
+            (right, None),
+            (Ran(0, b"ok\nok\n", b""), "line 2 is `ok`, and with the right body `E1 halted`"),
+            (Ran(0, b"ok\nE1 halted\nok\n", b""), "line 3 is `ok`, and with the right body ``"),
+            (Ran(1, b"ok\nE1 halted\n", b""), "the status is 1, and with the right body 0"),
+            (Ran(-11, right.printed, b""), "it is ended by SIGSEGV"),
+            (Ran(None, b"ok\n", b""), "it doesn't end in 30 seconds"),
+        ):
+            self.assertEqual(came.differs(right), told)
+
+    def test_reasons_are_read(self):
+        for word in (EQUIVALENT, NOT_SURE):
+            text = f"file: src/lib.rt\nold:     x + x\nnew:     x * 2\n{word}: it is twice the number\n"
+            file = self.crate / "wrong-bodies" / f"{word}_body.edit"
+            file.write_text(text, encoding="utf-8")
+            self.assertEqual(read_body(file, self.source).notes, {word: "it is twice the number"})
 
     def test_closure_proof_is_copied(self):
         ((copy,),) = copied([self.body("closure_adds_one_once")], self.source, self.crate)

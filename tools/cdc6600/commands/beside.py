@@ -1,11 +1,14 @@
 """Prints what `events` answers for a session, each answer beside its line of the schedule.
 
 With --values it prints the values of all registers and of the words that the deck shows after each event, in octal and
-as a number. A star stands before each value that the event has changed. CDC6600 may name the program to ask.
+as a number. A star stands before each value that the event has changed. EVENTS chooses lines by the numbers that
+tools/timeline has: 3-11,14 are the lines 3 to 11 and 14. The last line has the dump. CDC6600 may name the program to
+ask.
 """
 
 import argparse
 import itertools
+import re
 import sys
 from pathlib import Path
 
@@ -17,11 +20,20 @@ from cdc6600.shared.ending import ended
 from cdc6600.shared.program import Program
 
 
+def events(text):
+    """The numbers that a list of numbers and spans has, from 1 on."""
+    if not re.fullmatch(r"[1-9]\d{0,8}(-[1-9]\d{0,8})?(,[1-9]\d{0,8}(-[1-9]\d{0,8})?)*", text):
+        raise argparse.ArgumentTypeError(f"{text} has another form than 3-11,14")
+    spans = [part.partition("-") for part in text.split(",")]
+    return [range(int(first), int(last or first) + 1) for first, _, last in spans]
+
+
 def arguments():
     parser = argparse.ArgumentParser(description=__doc__, formatter_class=argparse.RawDescriptionHelpFormatter)
     parser.add_argument("--values", action="store_true", help="print the values after each event")
     parser.add_argument("name", metavar="SESSION",
                         help="a session of decks/sessions without the ending .session, or a file with a session")
+    parser.add_argument("events", metavar="EVENTS", nargs="?", type=events, help="print these lines alone: 3-11,14")
     return parser.parse_args()
 
 
@@ -54,7 +66,9 @@ def work():
     ran = program.run(["events"], it.text.encode("latin-1"))
     schedule = it.text.removesuffix("\n").split("\n")[it.deck_end :]
     lines = itertools.zip_longest(schedule, ran.printed.decode().splitlines(), blocks, fillvalue="")
-    for line, answer, block in lines:
+    for number, (line, answer, block) in enumerate(lines, 1):
+        if given.events and not any(min(number, len(schedule)) in span for span in given.events):
+            continue
         print(f"{line:<19}{answer}" if answer or not line else line)
         sys.stdout.write(block)
     sys.stderr.buffer.write(ran.told)

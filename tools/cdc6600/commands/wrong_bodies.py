@@ -2,7 +2,8 @@
 
     tools/wrong-bodies                  those that the gate tries; what was refused before, and is the same, is kept
     tools/wrong-bodies CRATE..          all of these crates
-    tools/wrong-bodies --all            all of every crate
+    tools/wrong-bodies --all            all of every crate, and those of which it can't tell are run
+    tools/wrong-bodies --refute CRATE.. all of these crates, and those of which it can't tell are run
     tools/wrong-bodies --anew           whatever was kept
     tools/wrong-bodies --after-rt-ci    over the libraries that `rt ci` has just left in this checkout
 
@@ -12,11 +13,14 @@ changed since its bodies were last tried on this machine. docs/work/CHANGING.md 
 
 Bodies are tried in groups: tools/cdc6600/wrong_bodies/copies.py, and for the rest groups.py, say why one check can
 judge many.
-tools/cdc6600/wrong_bodies/verdicts.py says what a check refuses, and second.py when that counts.
+tools/cdc6600/wrong_bodies/verdicts.py says what a check refuses, and second.py when that counts. tools/cdc6600/refuting
+runs the others: a body is refuted by a deck or a session for which the program writes something else with it. Of one
+that isn't, it can't tell. Its edit gives the reason in a line `unsure: REASON`, or the body counts as not refused. A
+body that does what the right one does has a line `equivalent: REASON`, and isn't tried.
 
-It prints a line for each body with its verdict and the goal, a line for each crate, and last the number of bodies, of
-those that aren't refused, and of those of which it can't tell. The status is 0 if each body is refused or of that last
-kind.
+It prints a line for each body with its verdict and the goal or the case, a line for each crate, and last the number of
+bodies, of those that aren't refused, and of those of which it can't tell. The status is 0 if no body counts as not
+refused.
 """
 
 import argparse
@@ -28,16 +32,19 @@ from pathlib import Path
 from cdc6600.building import host
 from cdc6600.crates.kit import kit
 from cdc6600.crates.table import Table, Unreadable
+from cdc6600.refuting.running import refute, unsure_in
 from cdc6600.shared.program import ROOT
 from cdc6600.crates.crate import EDITS
+from cdc6600.wrong_bodies.edits import UNSURE
 from cdc6600.wrong_bodies.tries import Tries, read_crate
-from cdc6600.wrong_bodies.verdicts import CANT_TELL, NOT_REFUSED
+from cdc6600.wrong_bodies.verdicts import NOT_REFUSED, REFUTED, Verdict
 
 
 def arguments():
     parser = argparse.ArgumentParser(description=__doc__, formatter_class=argparse.RawDescriptionHelpFormatter)
     parser.add_argument("crates", nargs="*", metavar="CRATE", help="a crate of crates.txt; none: all of them")
     parser.add_argument("--all", action="store_true", help="those of the night too")
+    parser.add_argument("--refute", action="store_true", help="run those of which it can't tell, as --all does")
     parser.add_argument("--anew", action="store_true", help="try them whatever an earlier run kept")
     parser.add_argument("--once", action="store_true", help="check each body once, which takes a third of the time")
     parser.add_argument("--after-rt-ci", action="store_true",
@@ -67,22 +74,35 @@ def not_refused(crate):
     return lines
 
 
-def cant_tell(crate):
-    """A line for each body of which it can't be told whether the contract refuses it."""
-    found = [(body.name, crate.verdicts.get(body.name)) for body in crate.bodies]
-    return [f"{crate.name}/{name}: {verdict.words}" for name, verdict in found if verdict and verdict.kind == CANT_TELL]
-
-
 def report(crate):
-    """Prints what came of each of a crate's bodies."""
+    """Prints what the prover found of each of a crate's bodies, but for those of which it can't tell."""
     for line in not_refused(crate):
         print(f"NOT REFUSED {line}", flush=True)
-    for line in cant_tell(crate):
-        print(f"CAN'T TELL {line}", flush=True)
     for body in crate.bodies:
         verdict = crate.verdicts.get(body.name)
         if verdict is not None and verdict.refused:
             print(f"{crate.name}/{body.name}: refused at {verdict.words}", flush=True)
+
+
+def run_unsure(table, crates, given):
+    """Runs the bodies of which the prover can't tell, and prints what came of each. One that nothing refutes, and whose
+    edit gives no reason, counts as not refused."""
+    refute(table, crates, given.at_once or host.places())
+    for crate in crates:
+        for name, verdict in sorted(crate.verdicts.items()):
+            if verdict.kind == REFUTED:
+                print(f"{crate.name}/{name}: refuted by {verdict.words}")
+    for crate, body in unsure_in(crates):
+        if UNSURE not in body.notes:
+            words = f"nothing refutes it, and its edit has no line `{UNSURE}: `"
+            crate.verdicts[body.name] = Verdict(NOT_REFUSED, words)
+            print(f"NOT REFUSED {crate.name}/{body.name}: {words}")
+
+
+def print_unsure(crates):
+    """Prints the bodies of which it can't tell, with the reason of the edit, or else the goal."""
+    for crate, body in unsure_in(crates):
+        print(f"CAN'T TELL {crate.name}/{body.name}: {body.notes.get(UNSURE) or crate.verdicts[body.name].words}")
 
 
 def try_all(table, crates, given):
@@ -106,6 +126,9 @@ def work():
     identity = kit()
     crates = [read_crate(table, name, identity, given) for name in names]
     tries = try_all(table, crates, given)
+    if given.all or given.refute:
+        run_unsure(table, crates, given)
+    print_unsure(crates)
     for crate in crates:
         total = len(crate.bodies) + len(crate.faults)
         seconds = f"{crate.seconds:.0f} seconds of processor time"
@@ -113,10 +136,11 @@ def work():
         crate.settle()
     print(f"libraries: {len(tries.libraries)}, {tries.library_seconds:.0f} seconds of processor time")
     print(f"left to --all: {sum(crate.left_out for crate in crates)}")
+    print(f"equivalent to the right ones: {sum(len(crate.equivalent) for crate in crates)}")
     bad = len(faults) + sum(len(not_refused(crate)) for crate in crates)
     total = sum(len(crate.bodies) + len(crate.faults) for crate in crates)
-    unsure = sum(len(cant_tell(crate)) for crate in crates)
-    print(f"{total} wrong bodies, {bad} not refused, {unsure} can't tell")
+    print(f"refuted: {sum(it.kind == REFUTED for crate in crates for it in crate.verdicts.values())}")
+    print(f"{total} wrong bodies, {bad} not refused, {len(unsure_in(crates))} can't tell")
     return 1 if bad else 0
 
 

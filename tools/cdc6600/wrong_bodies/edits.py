@@ -7,6 +7,10 @@ from cdc6600.crates.crate import EDITS
 from cdc6600.crates.source import items_of
 from cdc6600.crates.table import Unreadable
 
+EQUIVALENT, UNSURE = "equivalent", "unsure"
+# How the lines begin that have a reason.
+NOTES = (f"{EQUIVALENT}: ", f"{UNSURE}: ")
+
 
 @dataclass
 class Body:
@@ -19,6 +23,14 @@ class Body:
     # The functions that it changes, or that read a constant that it changes.
     touched: list = field(default_factory=list)
     is_alone: bool = False
+    notes: dict = field(default_factory=dict)  # its reasons, by the words of NOTES
+
+
+def notes_of(text):
+    """The reasons that an edit gives, by their words: why its body does what the right one does, or why nobody can tell
+    whether the contract refuses it."""
+    pairs = (line.split(": ", 1) for line in text.split("\n") if line.startswith(NOTES))
+    return {word: reason.strip() for word, reason in pairs}
 
 
 def pairs_of(text, label):
@@ -26,6 +38,8 @@ def pairs_of(text, label):
     path = old = None
     pairs = []
     for line in text.split("\n"):
+        if line.startswith(NOTES):
+            continue
         if line.startswith("file: "):
             path = line.removeprefix("file: ").strip()
         elif line.startswith("old: "):
@@ -44,6 +58,7 @@ def read_body(file, source):
     """Reads an edit and applies it by itself, so that each of its texts is looked for as the one before left them."""
     label = f"{file.parent.parent.name}/{file.stem}"
     body, texts = Body(file.stem, file.parent.name, file.read_text(encoding="utf-8")), {}
+    body.notes = notes_of(body.text)
     for path, old, new in pairs_of(body.text, label):
         if path not in source.texts:
             raise Unreadable(f"{label}: {path} is no file of src")

@@ -16,10 +16,8 @@ from cdc6600.shared.program import ROOT
 from .verdicts import Verdict
 from .workspaces import PARTS
 
-# The runner's files, from the package's folder on.
-RUNNER = (
-    "wrong_bodies/*.py", "commands/wrong_bodies.py", "building/host.py", "building/processes.py", "crates/*.py",
-)
+# The runner's files that verdicts of the prover depend on, from the package's folder on.
+RUNNER = ("wrong_bodies/*.py", "building/host.py", "building/processes.py", "crates/*.py")
 
 
 def own_text():

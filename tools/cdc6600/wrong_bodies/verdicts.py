@@ -49,7 +49,7 @@ ENDED = ("proved", "not proved", "no proof")
 NUMBERED = re.compile(r"_(?:wrong|right)_\d+$")
 ENDS = re.compile(r"only=(\d+) proved=(\d+)|logic=(proved|not-proved)\b.*|(?:only=\d+ )?holes=(\d+)")
 STOPS = re.compile(r"(?<!fatal )\berror(\[[\w-]+\])?:|^rattle: ")
-REFUSED, NOT_REFUSED, CANT_TELL = "refused", "not refused", "can't tell"
+REFUSED, NOT_REFUSED, CANT_TELL, REFUTED = "refused", "not refused", "can't tell", "refuted"
 
 
 @dataclass(frozen=True)

@@ -1,0 +1,1 @@
+"""Runs wrong bodies without proof, to find a case that tells them from the right ones."""

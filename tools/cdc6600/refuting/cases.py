@@ -1,0 +1,176 @@
+"""The cases on which wrong bodies are run: a command of an executable with its input, and what it writes with the right
+bodies.
+
+Those of the program are the stored sessions and decks, the rows of the pages of refusals and requests, command lines
+that are refused, and drawn sessions. Runs by threads come first for a crate that only they use, and last for the
+others, since they take longest. Decks of which such a run may have several logs are left out there. Those of a crate of
+tests are its tests.
+"""
+
+import random
+import resource
+import signal
+import subprocess
+import tempfile
+from dataclasses import dataclass
+
+from cdc6600.checks.drawn_sessions import drawn_session
+from cdc6600.shared.decks import PAGES, deck, decks, log_of, rows_of, sessions
+from cdc6600.shared.program import Program, followed
+
+from .choosing import STARTING
+
+# A body may run on and on, and print on and on. The right program's longest case takes less than a tenth of these
+# seconds on an idle machine, and prints less than a hundredth of these bytes.
+SECONDS, BYTES = 30, 1 << 24
+# The program without its proof takes minutes for these decks.
+LONG = {"endless"}
+DRAWN = 60
+# Command lines without input.
+USAGE = ((), ("nosuch",), ("run", "--budget", "0x1"), ("replay", "I0"), ("replay",), ("events", "more"), ("--version",))
+# Lines that are no events.
+NO_EVENTS = ("read", "accept 4", "accept x", "return 9", "bank 32", "ask 8", "ppwrite 110", "ppwrite 8 1", "issue ", "")
+
+
+@dataclass(frozen=True)
+class Ran:
+    """How a run ended: its status, negative if a signal ended it and none if it had no end, and what it wrote."""
+
+    status: int | None
+    printed: bytes
+    told: bytes
+
+    def differs(self, right):
+        """Where this run differs from the right one, in words; none where it doesn't."""
+        if self == right:
+            return None
+        if self.status is None:
+            return f"it doesn't end in {SECONDS} seconds"
+        for what, own, its in (("line", self.printed, right.printed), ("standard error, line", self.told, right.told)):
+            pairs = zip((*own.split(b"\n"), b"no line"), (*its.split(b"\n"), b"no line"))
+            found = next(((at, a, b) for at, (a, b) in enumerate(pairs, 1) if a != b), None)
+            if found:
+                at, came, wanted = found
+                return f"{what} {at} is `{shown(came)}`, and with the right body `{shown(wanted)}`"
+        if self.status < 0:
+            return f"it is ended by {signal.Signals(-self.status).name}"
+        return f"the status is {self.status}, and with the right body {right.status}"
+
+
+def shown(line):
+    """A line as it may be printed."""
+    return line.decode("ascii", "replace")[:100]
+
+
+@dataclass(frozen=True)
+class Case:
+    """A command of an executable by its words, its input, and a name."""
+
+    name: str
+    words: tuple
+    text: bytes = b""
+
+    def run(self, file):
+        """How an executable does it. One that runs on is killed."""
+        with tempfile.TemporaryFile() as printed, tempfile.TemporaryFile() as told, tempfile.TemporaryFile() as given:
+            given.write(self.text)
+            given.seek(0)
+            with STARTING:
+                process = subprocess.Popen(
+                    [file, *self.words], stdin=given, stdout=printed, stderr=told, preexec_fn=limit
+                )
+            with process:
+                try:
+                    status = process.wait(SECONDS)
+                except subprocess.TimeoutExpired:
+                    process.kill()
+                    status = None
+            return Ran(status, *(read(it) for it in (printed, told)))
+
+
+def limit():
+    """Ends a program that prints on and on."""
+    resource.setrlimit(resource.RLIMIT_FSIZE, (BYTES, BYTES))
+
+
+def read(file):
+    """What a program wrote to a file."""
+    file.seek(0)
+    return file.read()
+
+
+def stored():
+    """The cases of the folder decks/."""
+    for it in sessions():
+        yield Case(str(it), ("events",), it.text)
+    for it in (it for it in decks() if it.name not in LONG):
+        yield Case(f"{it} by run --sequential", ("run", "--sequential", *it.arguments), it.text)
+        yield Case(f"{it} by list", ("list",), it.text)
+        if it.dump is not None:
+            yield Case(f"{it} by replay", ("replay", log_of(it.dump)), it.text)
+            yield Case(f"{it} by replay --log-follows", ("replay", "--log-follows"), followed(it.text, log_of(it.dump)))
+
+
+def rows():
+    """The cases of the pages: decks that are refused, and requests for exchanges."""
+    for at, row in enumerate(rows_of(PAGES / "refusals.md"), 1):
+        text = row[0].replace("\\n", "\n").replace("\\r", "\r").encode()
+        yield Case(f"row {at} of {PAGES.name}/refusals.md", ("list",), text)
+    packages = deck("four-packages").text
+    for at, (lines, budget, *_) in enumerate(rows_of(PAGES / "requests.md"), 1):
+        text = packages.replace(b"\nend\n", f"\n{lines}\nend\n".replace("; ", "\n").encode())
+        name = f"row {at} of {PAGES.name}/requests.md"
+        yield Case(f"{name} by run --sequential", ("run", "--sequential", "--budget", budget), text)
+
+
+def refused():
+    """Command lines that are refused, and lines of a schedule that are no events."""
+    for words in USAGE:
+        yield Case(f"the command line {' '.join(words)!r}", words)
+    text = deck("two-adds").text
+    for line in NO_EVENTS:
+        yield Case(f"the event {line!r}", ("events",), text + f"ask 40\n{line}\nend\n".encode())
+
+
+def threaded():
+    """The runs by threads."""
+    found = [it for it in decks() if it.name not in LONG and not it.logs]
+    return [Case(f"{it} by run", ("run", *it.arguments), it.text) for it in found]
+
+
+def drawn(program):
+    """Drawn sessions, whose events are drawn as the right program answers. They are the same each time."""
+    for number in range(1, DRAWN + 1):
+        text, made, _ = drawn_session(Program(program), random.Random(f"wrong bodies {number}"))
+        events = "".join(f"{event}\n" for event, _ in made)
+        yield Case(f"drawn session {number}", ("events",), (text + events).encode("latin-1"))
+
+
+class Cases:
+    """Cases of an executable, each with what the right one does."""
+
+    def __init__(self, file, plain, last=()):
+        self.plain, self.last = list(plain), list(last)
+        self.right = {case.name: case.run(file) for case in self.plain + self.last}
+
+    def difference(self, file, is_last_first=False):
+        """The first case in which an executable does something else, and where it differs; none if there is no such
+        case."""
+        cases = self.last + self.plain if is_last_first else self.plain + self.last
+        for case in cases:
+            found = case.run(file).differs(self.right[case.name])
+            if found:
+                return f"{case.name}: {found}"
+        return None
+
+
+def of_program(file):
+    """The cases of the program."""
+    return Cases(file, [*stored(), *rows(), *refused(), *drawn(file)], threaded())
+
+
+def of_tests(crate, file):
+    """The cases of a crate's tests, by its executable."""
+    listed = subprocess.run([file, "--list"], capture_output=True, text=True, check=False).stdout
+    names = [line.removesuffix(": test") for line in listed.splitlines() if line.endswith(": test")]
+    return Cases(file, [Case(f"the test {crate}::{name}", (name,)) for name in names])

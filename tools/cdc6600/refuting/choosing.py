@@ -1,0 +1,149 @@
+"""Executables that have every wrong body of the crates, and run the one that a number chooses.
+
+They are built from the sources without their proof. Each function with wrong bodies compares its crate's number with
+the numbers of these bodies, and runs the chosen one, or the right one. The number is a constant that an executable has
+once, so one build is enough: each body gets a copy of the executable with its number in that place.
+"""
+
+import os
+import re
+import shutil
+import threading
+from dataclasses import dataclass, field
+
+from cdc6600.building import unproved
+from cdc6600.crates.kit import checker
+from cdc6600.crates.source import Sources
+from cdc6600.crates.table import Table, Unreadable
+from cdc6600.wrong_bodies.edits import read_bodies
+
+# The constant of the first crate; each further one has the next constant. The number of a body is below it.
+FIRST = 0x5EED_0001
+CHOSEN = "chosen_body"
+ROOTS = ("src/lib.rt", "src/main.rt")
+# While an executable is written no process is started, since that one would have it open, and nobody could run it.
+STARTING = threading.Lock()
+
+
+@dataclass
+class Chosen:
+    """A crate with all its wrong bodies: the texts of its sources, the number of each body by its name, and the names
+    of those that can't be chosen."""
+
+    texts: dict = field(default_factory=dict)
+    numbers: dict = field(default_factory=dict)
+    left: list = field(default_factory=list)
+
+
+def places_of(body, source):
+    """The functions in which a body is wrong, each with what is wrong there; none if it changes anything else."""
+    found = []
+    for region in body.regions:
+        path, start, end, lines = region
+        inside = [it for it in source.functions() if it.path == path and it.body_start < start and end <= it.last]
+        if not inside or any(re.search(r"\bfn \w", line) for line in lines):
+            return []
+        found.append((inside[-1], region))
+    return found
+
+
+def with_bodies(source, bodies):
+    """The texts of a crate with all these bodies in their functions."""
+    chosen, places = Chosen(), {}
+    for body in bodies:
+        found = places_of(body, source)
+        if not found:
+            chosen.left.append(body.name)
+            continue
+        chosen.numbers[body.name] = len(chosen.numbers) + 1
+        for item, region in found:
+            places.setdefault(item, []).append((chosen.numbers[body.name], region))
+    for item, wrong in sorted(places.items(), key=lambda it: -it[0].first):
+        lines = chosen.texts.get(item.path, source.texts[item.path]).split("\n")
+        lines[item.body_start + 1 : item.last] = arms_of(item, wrong, source.texts[item.path].split("\n"))
+        chosen.texts[item.path] = "\n".join(lines)
+    return chosen
+
+
+def arms_of(item, wrong, lines):
+    """The lines of a function's body with the wrong ones, each by its number, before the right one."""
+    first, last = item.body_start + 1, item.last
+    for number, (_, start, end, new) in wrong:
+        yield f"if crate::{CHOSEN}() == {number} {{"
+        yield from [*lines[first:start], *new, *lines[end:last]]
+        yield "} else"
+    yield from ["{", *lines[first:last], "}"]
+
+
+def write_texts(folder, texts, constant):
+    """Writes the sources of a crate with its constant."""
+    root = next(it for it in ROOTS if it in texts)
+    number = f"\n/// The number of the wrong body that runs.\nfn {CHOSEN}() -> u32 {{\n    {constant}\n}}\n"
+    for path, text in (texts | {root: texts[root] + number}).items():
+        (folder / path).write_text(text, encoding="utf-8")
+
+
+class Choice:
+    """A copy of all crates that has their wrong bodies, in a folder of its own. `constants` has the constant of each
+    crate with wrong bodies, and `numbers` the number of each body by its crate and its name."""
+
+    def __init__(self, table, room):
+        self.room, self.constants, self.numbers = room, {}, {}
+        for name in table.lines:
+            folder = table.folder(name)
+            target = room / folder.relative_to(table.root)
+            shutil.copytree(folder, target, ignore=shutil.ignore_patterns("out"))
+            source = Sources.read(folder)
+            chosen = with_bodies(source, read_bodies(folder, source)[0])
+            if chosen.numbers:
+                self.constants[name] = FIRST + len(self.constants)
+                write_texts(target, source.texts | chosen.texts, self.constants[name])
+                self.numbers |= {(name, body): number for body, number in chosen.numbers.items()}
+        table.write(room, list(table.lines))
+        self.table = Table(room)
+
+    def built(self, crate, is_test=False):
+        """The executable of a program, or that of a crate's tests.
+
+        Raises Unproved if it can't be built, and Unreadable if it has a constant twice."""
+        room = self.room / "built" / crate
+        room.mkdir(parents=True)
+        data = unproved.build(self.table, checker().parent.parent, crate, room, is_test).read_bytes()
+        twice = [name for name, constant in self.constants.items() if data.count(bytes_of(constant)) > 1]
+        if twice:
+            raise Unreadable(f"the executable of {crate} has the constants of {', '.join(twice)} more than once")
+        return Executable(self, room, data)
+
+
+def bytes_of(number):
+    """A number as an executable has it."""
+    return number.to_bytes(4, "little")
+
+
+class Executable:
+    """An executable in which a body can be chosen."""
+
+    def __init__(self, choice, room, data):
+        self.choice, self.room, self.data = choice, room, data
+
+    def right(self):
+        """A file of the executable with the right bodies."""
+        return self.put("right", self.data)
+
+    def has(self, crate, body):
+        """Whether a body can be chosen in it."""
+        constant = self.choice.constants.get(crate)
+        return (crate, body) in self.choice.numbers and bytes_of(constant) in self.data
+
+    def wrong(self, crate, body):
+        """A file of the executable in which this body is chosen."""
+        constant, number = self.choice.constants[crate], self.choice.numbers[crate, body]
+        return self.put(f"{crate}-{body}", self.data.replace(bytes_of(constant), bytes_of(number)))
+
+    def put(self, name, data):
+        """Writes an executable."""
+        file = self.room / name
+        with STARTING:
+            file.write_bytes(data)
+        os.chmod(file, 0o755)
+        return file
