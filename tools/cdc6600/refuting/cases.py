@@ -103,6 +103,7 @@ def stored():
     """The cases of the folder decks/."""
     for it in sessions():
         yield Case(str(it), ("events",), it.text)
+        yield Case(f"{it} with a budget of 2", ("events", "--budget", "2"), it.text)
     for it in (it for it in decks() if it.name not in LONG):
         yield Case(f"{it} by run --sequential", ("run", "--sequential", *it.arguments), it.text)
         yield Case(f"{it} by list", ("list",), it.text)
