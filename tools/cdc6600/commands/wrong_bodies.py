@@ -16,7 +16,8 @@ judge many.
 tools/cdc6600/wrong_bodies/verdicts.py says what a check refuses, and second.py when that counts. tools/cdc6600/refuting
 runs the others: a body is refuted by a deck or a session for which the program writes something else with it. Of one
 that isn't, it can't tell. Its edit gives the reason in a line `unsure: REASON`, or the body counts as not refused. A
-body that does what the right one does has a line `equivalent: REASON`, and isn't tried.
+body that does what the right one does has a line `equivalent: REASON`, and isn't tried. One that its contract lets
+through has a line `let through: REASON`; the prover isn't asked, and a run has to refute it.
 
 It prints a line for each body with its verdict and the goal or the case, a line for each crate, and last the number of
 bodies, of those that aren't refused, and of those of which it can't tell. The status is 0 if no body counts as not
@@ -37,7 +38,7 @@ from cdc6600.shared.program import ROOT
 from cdc6600.crates.crate import EDITS
 from cdc6600.wrong_bodies.edits import UNSURE
 from cdc6600.wrong_bodies.tries import Tries, read_crate
-from cdc6600.wrong_bodies.verdicts import NOT_REFUSED, REFUTED, Verdict
+from cdc6600.wrong_bodies.verdicts import CANT_TELL, NOT_REFUSED, REFUTED, Verdict
 
 
 def arguments():
@@ -85,8 +86,11 @@ def report(crate):
 
 
 def run_unsure(table, crates, given):
-    """Runs the bodies of which the prover can't tell, and prints what came of each. One that nothing refutes, and whose
-    edit gives no reason, counts as not refused."""
+    """Runs the bodies of which the prover can't tell, and those that their contracts let through, and prints what came
+    of each. One that nothing refutes counts as not refused, unless its edit says why nobody can tell."""
+    for crate in crates:
+        crate.bodies += crate.let_through
+        crate.verdicts |= {it.name: Verdict(CANT_TELL, "its contract lets it through") for it in crate.let_through}
     refute(table, crates, given.at_once or host.places())
     for crate in crates:
         for name, verdict in sorted(crate.verdicts.items()):

@@ -2,8 +2,9 @@
 
     tools/check edits            prints each edit that can't be, and nothing if there is none
 
-The old text of an edit must occur exactly once in its file, and an edit may change no contract. This check takes
-seconds; whether the prover refuses the wrong body is up to `tools/wrong-bodies`.
+The old text of an edit must occur exactly once in its file, and an edit may change no contract. At most 20 edits may
+say `unsure: `, which means that neither the prover nor a run tells whether their bodies are wrong. This check takes
+seconds; whether the prover refuses a wrong body is up to `tools/wrong-bodies`.
 
 Run it after a change of code or of an edit.
 """
@@ -13,15 +14,21 @@ import sys
 from cdc6600.crates.source import Sources
 from cdc6600.crates.table import Table
 from cdc6600.shared.program import ROOT
-from cdc6600.wrong_bodies.edits import read_bodies
+from cdc6600.wrong_bodies.edits import UNSURE, read_bodies
+
+MOST_UNSURE = 20
 
 
 def main():
     """Prints the faults of the edits of all crates."""
     table = Table(ROOT)
-    faults = []
+    faults, unsure = [], 0
     for name in table.lines:
         folder = table.folder(name)
-        faults += read_bodies(folder, Sources.read(folder))[1]
+        bodies, found = read_bodies(folder, Sources.read(folder))
+        faults += found
+        unsure += sum(UNSURE in body.notes for body in bodies)
+    if unsure > MOST_UNSURE:
+        faults.append(f"{unsure} edits say `{UNSURE}: `, and at most {MOST_UNSURE} may")
     sys.stdout.writelines(f"{fault}\n" for fault in faults)
     return 1 if faults else 0

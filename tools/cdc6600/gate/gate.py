@@ -1,8 +1,9 @@
 """The gate. Its last line is a count, `N passed, M failed`, and the lines before it say what each part took.
 
     .ci/run           everything, but what earlier runs found of the very same text is kept, crate by crate
-    .ci/run --all     also the wrong bodies of the night in crates that haven't changed. If each is refused or can't be
-                      told, docs/proof/all-wrong-bodies.txt notes it, whatever the later parts find
+    .ci/run --all     also the wrong bodies of the night in crates that haven't changed, and those of which the prover
+                      can't tell are run. If none is let through, docs/proof/all-wrong-bodies.txt notes it, whatever the
+                      later parts find
     .ci/run --anew    whatever was kept; `--all --anew` too
     .ci/run quick     a look while something is changed: the small checks, and what changed since the last look is
                       proved. It tries no wrong body and runs no test

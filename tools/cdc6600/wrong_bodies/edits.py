@@ -7,9 +7,9 @@ from cdc6600.crates.crate import EDITS
 from cdc6600.crates.source import items_of
 from cdc6600.crates.table import Unreadable
 
-EQUIVALENT, UNSURE = "equivalent", "unsure"
+EQUIVALENT, UNSURE, LET_THROUGH = "equivalent", "unsure", "let through"
 # How the lines begin that have a reason.
-NOTES = (f"{EQUIVALENT}: ", f"{UNSURE}: ")
+NOTES = (f"{EQUIVALENT}: ", f"{UNSURE}: ", f"{LET_THROUGH}: ")
 
 
 @dataclass
@@ -27,8 +27,8 @@ class Body:
 
 
 def notes_of(text):
-    """The reasons that an edit gives, by their words: why its body does what the right one does, or why nobody can tell
-    whether the contract refuses it."""
+    """The reasons that an edit gives, by their words: why its body does what the right one does, why nobody can tell
+    whether the contract refuses it, or why the contract lets it through."""
     pairs = (line.split(": ", 1) for line in text.split("\n") if line.startswith(NOTES))
     return {word: reason.strip() for word, reason in pairs}
 

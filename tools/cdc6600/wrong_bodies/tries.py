@@ -23,7 +23,7 @@ from cdc6600.crates.table import Unreadable
 
 from .assumed import assumed
 from .copies import beside, can_stand_beside, copied, written_folders
-from .edits import EQUIVALENT, merged, read_bodies
+from .edits import EQUIVALENT, LET_THROUGH, merged, read_bodies
 from .groups import grouped
 from .kept import Kept, own_sum, sum_of
 from .libraries import left_by_rt_ci
@@ -70,7 +70,8 @@ class Crate:
     opening: Opening
     own: str  # the sum of its own text
     left_out: int  # how many bodies of the night aren't tried
-    equivalent: list  # the names of bodies that do what the right ones do
+    equivalent: list  # the bodies that do what the right ones do
+    let_through: list  # the bodies that the contract lets through, which a run has to refute
     groups: list = field(default_factory=list)
     verdicts: dict = field(default_factory=dict)  # by the name of the body
     faults: list = field(default_factory=list)
@@ -100,13 +101,13 @@ def read_crate(table, name, identity, given):
     out, unless all are asked for or the crate has changed since its bodies were last tried."""
     source, own = Sources.read(table.folder(name)), own_sum(table, name)
     every, faults = read_bodies(table.folder(name), source)
-    found = [body for body in every if EQUIVALENT not in body.notes]
-    equivalent = [body.name for body in every if EQUIVALENT in body.notes]
+    apart = [[body for body in every if word in body.notes] for word in (EQUIVALENT, LET_THROUGH)]
+    found = [body for body in every if body not in apart[0] + apart[1]]
     kept = Kept(name, sum_of(table, name, identity), given.anew, given.once)
     are_all = given.all or bool(given.crates) or kept.has_changed(own)
     bodies = [body for body in found if are_all or body.folder != NIGHTLY]
     left_out = len(found) - len(bodies)
-    crate = Crate(name, source, bodies, kept, Opening(table, name), own, left_out, equivalent, faults=faults)
+    crate = Crate(name, source, bodies, kept, Opening(table, name), own, left_out, *apart, faults=faults)
     for body in bodies:
         verdict = crate.kept.verdict(body)
         if verdict:
