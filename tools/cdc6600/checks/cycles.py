@@ -2,6 +2,8 @@
 
 - A session with times that are given here is drawn as text, as a picture and as a page, and each mark has to be in the
   cycle that was counted by hand. The picture of a page stays where it is at events of no reservation.
+- The table of the reservations has the events and the minor cycles that were counted by hand, and what held each one:
+  as text, as JSON, and on the pages of a session and of two schedules.
 - The page that compares two schedules of a deck has to say of each what `tools/schedule --summary` says, by each
   policy: the instructions, the cycles, and the waits with their causes.
 - tools/gallery writes the pages of sessions and decks that it is given.
@@ -18,11 +20,14 @@ import tempfile
 import xml.etree.ElementTree as ET
 from pathlib import Path
 
+from cdc6600.drawing.instructions import NAMES
 from cdc6600.drawing.page import DATA
 from cdc6600.shared.decks import deck, session
 from cdc6600.shared.program import ROOT, tell
 from cdc6600.shared.waiting import run
 from cdc6600.timing.scheduling import POLICIES, TIMED
+
+from .scheduling import BANK, DECK
 
 TIMELINE, GALLERY, SCHEDULE = (ROOT / "tools" / name for name in ("timeline", "gallery", "schedule"))
 TIMES = "issue15 1\nissue30 2\nboolean 3\nshift 3\nlongadd 4\nincrement 3\ndivide 8\nuntaken 5\ntaken 8\nhopper 1\n" \
@@ -36,10 +41,40 @@ MARKS = {
     "machine": {0: "QX", 4: "E7", 15: "D"}, "1": {0: "I", 4: "R", 7: "FS"}, "2": {2: "I", 7: "R", 10: "FS"},
     "3": {4: "IE9", 10: "R", 14: "FS"}, "4": {14: "I", 15: "D"},
 }
+# The table of the session conflicts by its events, and those of two decks by the minor cycles that scheduling.py counts
+# by hand: the number, the six moments, and what held the reservation.
+TABLES = {
+    "conflicts": [
+        ("1", "3", "8", "9", "10", "", "", ""), ("2", "4", "11", "12", "13", "", "", ""),
+        ("3", "5", "14", "15", "16", "", "", "read: E9 operand awaited X2 (reservation 2)"),
+        ("4", "17", "", "", "", "", "", "issue: E7 unit busy longadd (reservation 3)"),
+    ],
+    DECK: [
+        ("1", "26", "26", "29", "29", "", "", ""), ("2", "28", "28", "31", "31", "", "", ""),
+        ("3", "30", "31", "34", "34", "", "", "read: E9 operand awaited X2 (reservation 2), 1 cycle"),
+        ("4", "34", "34", "37", "37", "", "", "issue: E7 unit busy longadd (reservation 3), 3 cycles"),
+    ],
+    BANK: [
+        ("1", "26", "26", "29", "29", "30", "35", ""),
+        ("2", "28", "28", "31", "31", "40", "45", "accept: E13 bank busy 1 (reservation 1), 8 cycles"),
+    ],
+}
+# The texts and the units of the reservations of these tables, as the text has them and as a page has them.
+TEXTS = {"conflicts": "SX1 B0+5|SX2 B0+3|IX3 X1+X2|IX4 X2-X1", DECK: "SX1 B0+5|SX2 B0+3|IX3 X1+X2|IX4 X2-X1",
+         BANK: "SA1 B0+1|SA2 B0+41"}
+UNITS = {"conflicts": "increment1|increment2|longadd|longadd", DECK: "increment1|increment2|longadd|longadd",
+         BANK: "increment1|increment2"}
+# What JSON has of one of them.
+OBJECT = {
+    "reservation": 2, "instruction": "SA2 B0+41", "unit": "increment2", "issue": 28, "read": 28, "finish": 31,
+    "store": 31, "accepted": 40, "returned": 45,
+    "held": {"event": "accept", "rule": "E13", "reason": "E13 bank busy 1", "by": [1], "cycles": 8},
+}
 # The letters of a label and of a column in this text.
 LABEL, COLUMN = 24, 5
 # The rows of the page of two schedules that come first.
 COUNTS = ("Instructions", "Minor cycles", "Instructions a minor cycle")
+ROW = re.compile(r'<tr><th scope="row">([0-9]+)</th>((?:<td>[^<]*</td>){9})</tr>')
 TD = re.compile(r'<tr><th scope="row">([^<]*)</th><td>([^<]*)</td><td>([^<]*)</td></tr>')
 
 
@@ -85,6 +120,45 @@ def faults_in_sight():
     moved = [f"the picture moves at {step['event']}" for before, step in zip(steps, steps[1:])
              if step["event"].split(" ")[0] in ("bank", "end") and step["line"] != before["line"]]
     return moved if len({step["line"] for step in steps}) > 1 else [*moved, "the picture never moves"]
+
+
+def cells_of(table):
+    """The cells of each row of a table as text. A moment ends where its head ends."""
+    head, *lines = table.splitlines()
+    _, text, unit, *ends = (it.end() for it in re.finditer(r"\S+", head))
+    begins = [0, text - len("instruction"), unit - len("unit"), *ends[:-2]]
+    for line in lines[:-2]:
+        number, name, first, *others = (line[at:end].strip() for at, end in zip(begins, [*begins[1:], None]))
+        yield number, name, *first.split(), *others
+
+
+def faults_of_table(folder, name):
+    """Where the table of a session, or of the session that a deck is scheduled to, differs as text or on a page; the
+    page of two schedules has it twice."""
+    file, words = folder / "table.session", ["--cycles"] * (name != "conflicts")
+    (folder / "table.deck").write_text(name, encoding="ascii")
+    file.write_text(printed(SCHEDULE, ROOT / DECK if name == DECK else folder / "table.deck") if words else
+                    session(name).text.decode(), encoding="ascii")
+    first = zip(TEXTS[name].split("|"), UNITS[name].split("|"))
+    wanted = [(number, *pair, *others) for pair, (number, *others) in zip(first, TABLES[name])]
+    came = list(cells_of(printed(TIMELINE, "--table", *words, file)))
+    faults = [f"the table of {name[:20]} has {came}, and should have {wanted}"] * (came != wanted)
+    named = [(number, text, NAMES[unit], *others) for number, text, unit, *others in wanted]
+    for of, page in ((1, ["--html", *words, file]), (2, ["--html", "--compare", file, file])):
+        found = ROW.findall(printed(TIMELINE, *page))
+        rows = [(number, *re.findall("<td>([^<]*)</td>", cells)) for number, cells in found]
+        if rows != named * of and not (of == 2 and not words):
+            faults.append(f"the page {page[:-1]} of {name[:20]} has {rows}, and should have {named * of}")
+    return faults
+
+
+def faults_of_json(folder):
+    """Where the table as JSON differs."""
+    came = json.loads(printed(TIMELINE, "--table", "--json", "--cycles", folder / "table.session"))
+    faults = [] if came[1:] == [OBJECT] else [f"JSON has {came[1:]}, and should have {[OBJECT]}"]
+    held = json.loads(printed(TIMELINE, "--table", "--json", session("conflicts").file))[3]["held"]
+    wanted = {"event": "issue", "rule": "E7", "reason": "E7 unit busy longadd", "by": [3], "cycles": None}
+    return faults + [f"JSON has {held}, and should have {wanted}"] * (held != wanted)
 
 
 class Told:
@@ -152,6 +226,8 @@ def faults_of_refusals(folder):
         (1, "a fault of times", [TIMELINE, "--cycles", "--times", folder / "bad", conflicts], "column 9: 'x' .*"),
         (1, "no times", [TIMELINE, "--cycles", "--times", "/nowhere", conflicts], missing),
         (2, "times alone", [TIMELINE, "--times", "/nowhere", conflicts], "--times goes with --cycles or --compare"),
+        (2, "JSON alone", [TIMELINE, "--json", conflicts], "--json goes with --table"),
+        (2, "two forms", [TIMELINE, "--table", "--html", conflicts], "--html: not allowed with argument --table"),
         (2, "one session", [TIMELINE, "--html", "--compare", conflicts], "--compare takes --html and two sessions"),
         (1, "two decks", [TIMELINE, "--html", "--compare", conflicts, other], "its deck isn't that of .*"),
         (1, "no deck", [GALLERY, folder / "none", "/nowhere"], missing),
@@ -175,6 +251,9 @@ def main():
         words = ["--cycles", "--times", folder / "times", session("conflicts").file]
         faults = [fault for work in (faults_of_text, faults_of_picture, faults_of_page) for fault in work(words)]
         faults += faults_in_sight()
+        for name in TABLES:
+            faults += faults_of_table(folder, name)
+        faults += faults_of_json(folder)
         for name in ("load-store", "subroutine"):
             faults += faults_of_comparison(folder, name)
         for work in (faults_of_gallery, faults_of_refusals):

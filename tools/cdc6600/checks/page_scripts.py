@@ -32,10 +32,10 @@ return {
 };
 """
 
-# What is wider than the window: the page, or a part of it outside the picture's box.
+# What is wider than the window: the page, or a part of it outside the boxes that scroll.
 SCROLLED = r"""
 const width = document.documentElement.clientWidth;
-const parts = [...document.querySelectorAll("body *")].filter((it) => !it.closest("#scroll > *"));
+const parts = [...document.querySelectorAll("body *")].filter((it) => !it.closest("#scroll > *, .wide > *"));
 const wide = parts.filter((it) => it.getBoundingClientRect().right > width + 0.5);
 const page = document.documentElement.scrollWidth;
 return [

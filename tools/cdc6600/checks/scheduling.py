@@ -6,7 +6,8 @@
   cycles from its issue to its last event. For the same log the default policy takes no more cycles than the one in
   program order.
 - For five decks the cycle of each event is the one that the clock gives the session when it is followed. By the
-  default policy the waits that the machine named are those that the rules name, too.
+  default policy the waits that the machine named are those that the rules name, too. The waits of each reservation are
+  its holds in the table of the reservations.
 - Two decks whose cycles were counted by hand have just those.
 - Bad options, decks and files of times give one line.
 
@@ -28,7 +29,7 @@ from cdc6600.shared.waiting import faults_found, run
 from cdc6600.timing.clock import ORDER, clocked
 from cdc6600.timing.scheduling import POLICIES, PROGRAM_ORDER, TIMED, Schedule
 from cdc6600.timing.times import DEFAULT, read_times
-from cdc6600.timing.waits import account, faults_of
+from cdc6600.timing.waits import Account, account, faults_of
 
 BUDGET = 500
 # The decks whose sessions are followed too.
@@ -75,7 +76,7 @@ def scheduled(program, deck, policy, times):
     """The schedule of a deck by a policy."""
     schedule = Schedule(program, Session(str(deck), deck.text.decode("latin-1")), times, policy, BUDGET)
     # The waits by what the machine has refused.
-    schedule.clock.cause = lambda part: schedule.refused.get(part, ORDER)
+    schedule.clock.cause = lambda part, _cycles: schedule.refused.get(part, ORDER)
     schedule.make()
     return schedule
 
@@ -99,8 +100,12 @@ def faults_of_following(schedule, times):
     following = schedule.followed()
     came, wanted = clocked(following, times), [*schedule.cycles, schedule.clock.now]
     faults = [f"followed, its events have the cycles {came}, not {wanted}"] * (came != wanted)
-    judged = account(following, times)
+    found = Account(following, times)
+    judged = found.clock
     faults += faults_of(judged)
+    for it in judged.parts:
+        held = sum(hold.cycles for hold in found.holds[it.number].values() if hold.event != "issue")
+        faults += [f"part {it.number} is held {held} cycles, and waits {it.waits.total()}"] * (held != it.waits.total())
     if schedule.policy == TIMED:
         pairs = zip([judged.issuing, *judged.parts], [schedule.clock.issuing, *schedule.clock.parts])
         faults += [f"part {it.number} waits for {dict(it.waits)} by the rules, for {dict(ours.waits)} by the machine"

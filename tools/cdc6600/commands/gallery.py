@@ -14,9 +14,8 @@ from cdc6600.drawing.page import Page
 from cdc6600.shared.decks import sessions, shown_by_sessions
 from cdc6600.shared.ending import ended
 from cdc6600.shared.program import Program
-from cdc6600.timing.clock import clocked
 from cdc6600.timing.scheduling import Schedule
-from cdc6600.timing.times import read_times
+from cdc6600.timing.times import Times, read_times
 
 INDEX = "index"
 
@@ -42,13 +41,12 @@ def write(folder, name, text):
 
 @dataclass(frozen=True)
 class Shown:
-    """A session of a page: its name, what it shows, how it was followed, and the minor cycle of each event if a column
-    is a cycle."""
+    """A session of a page: its name, what it shows, how it was followed, and the times if a column is a minor cycle."""
 
     name: str
     says: str
     following: Following
-    cycles: list | None = None
+    times: Times | None = None
 
 
 def followed(program, file, text):
@@ -74,8 +72,7 @@ def named(program, file, times):
     schedule.make()
     deck = session.text.split("\n")[: session.deck_end]
     following = followed(program, file, "".join(f"{line}\n" for line in [*deck, *schedule.events, "end"]))
-    return Shown(Path(file).stem, f"`{Path(file).name}`, scheduled by `tools/schedule`", following,
-                 clocked(following, times))
+    return Shown(Path(file).stem, f"`{Path(file).name}`, scheduled by `tools/schedule`", following, times)
 
 
 def check_names(files):
@@ -93,7 +90,7 @@ def work():
     found = [named(program, file, times) for file in given.files] if given.files else stored(program)
     names = [it.name for it in found]
     for it in found:
-        page = Page(it.following, it.name, it.says, links(names, it.name), it.cycles)
+        page = Page(it.following, it.name, it.says, links(names, it.name), it.times)
         write(folder, f"{it.name}.html", page.text())
     write(folder, f"{INDEX}.html", index([Entry(it.name, it.says, it.following) for it in found]))
     return 0

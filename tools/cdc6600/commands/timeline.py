@@ -3,8 +3,22 @@
 where no file of answers is given. With --cycles a column is a minor cycle by the file of times. With --compare the page
 of two schedules of one deck is written, by their minor cycles; SECOND is then the other session.
 
-docs/use/tools.md explains the drawing; drawing/following.py follows the events, drawing/forms.py draws the rows, and
-drawing/page.py writes the page. CDC6600 may name the program to ask.
+With --table the reservations are a table: when each one was issued, read, finished, stored, and if it made a reference,
+when that was accepted and returned; and which refusal held it last. A moment is the number of an event, or with
+--cycles a minor cycle, and then the last column has the longest wait. With --json the table is a list of objects:
+
+  reservation, instruction, unit                    its number, and the texts of the table
+  issue, read, finish, store, accepted, returned    a number, or null if the session has no such event
+  held                                              null, or an object with the fields below
+
+  event     the kind of the event that was held: issue, read, store, accept, return
+  rule      the number of the refusal, as "E9", or null if only the order of the schedule delayed the event
+  reason    the answer to the event, as "E9 operand awaited X1", or "order of the schedule"
+  by        the numbers of the reservations that held it
+  cycles    the minor cycles of this hold, or null without --cycles
+
+docs/use/tools.md explains the drawing; drawing/following.py follows the events, drawing/forms.py draws the rows,
+drawing/page.py writes the page, and timing/reservations.py has the table. CDC6600 may name the program to ask.
 """
 
 import argparse
@@ -18,7 +32,9 @@ from cdc6600.drawing.page import Page
 from cdc6600.shared.ending import ended
 from cdc6600.shared.program import Program
 from cdc6600.timing.clock import clocked
+from cdc6600.timing.reservations import as_json, as_text, rows_of
 from cdc6600.timing.times import read_times
+from cdc6600.timing.waits import Account
 
 
 def arguments():
@@ -26,6 +42,8 @@ def arguments():
     form = parser.add_mutually_exclusive_group()
     form.add_argument("--svg", action="store_true", help="draw a picture")
     form.add_argument("--html", action="store_true", help="write a page that steps through the events")
+    form.add_argument("--table", action="store_true", help="print the table of the reservations")
+    parser.add_argument("--json", action="store_true", help="with --table, print it as JSON")
     parser.add_argument("--cycles", action="store_true", help="a column for each minor cycle instead of each event")
     parser.add_argument("--times", metavar="FILE",
                         help="the file of times, tools/cdc6600/timing/thornton.times by default")
@@ -38,6 +56,8 @@ def arguments():
         parser.error("--times goes with --cycles or --compare")
     if given.compare and not (given.html and given.second):
         parser.error("--compare takes --html and two sessions")
+    if given.json and not given.table:
+        parser.error("--json goes with --table")
     return given
 
 
@@ -54,23 +74,26 @@ def page_of(given, program, times):
         files = (given.session, given.second)
         return Comparison([followed(program, file) for file in files], files, times).text()
     following = followed(program, given.session, given.second)
-    return Page(following, Path(given.session).stem, cycles=cycles_of(following, times)).text()
+    return Page(following, Path(given.session).stem, times=times).text()
 
 
-def cycles_of(following, times):
-    """The minor cycle of each event, if times are given."""
-    return clocked(following, times) if times else None
+def table_of(following, given, times):
+    """The table that is asked for."""
+    found = list(rows_of(following, Account(following, times) if times else None))
+    return as_json(found) if given.json else as_text(found, bool(times))
 
 
 def work():
     given, program = arguments(), Program()
     times = read_times(given.times) if given.cycles or given.compare else None
-    if given.html:
+    if given.table:
+        sys.stdout.write(table_of(followed(program, given.session, given.second), given, times))
+    elif given.html:
         sys.stdout.reconfigure(encoding="utf-8", errors="replace")
         sys.stdout.write(page_of(given, program, times))
     else:
         following = followed(program, given.session, given.second)
-        form = Form(following, cycles_of(following, times))
+        form = Form(following, clocked(following, times) if times else None)
         sys.stdout.write(form.picture() if given.svg else form.text())
     return 0
 

@@ -8,12 +8,13 @@ from collections import Counter
 from pathlib import Path
 from string import Template
 
-from cdc6600.timing.clock import clocked
-from cdc6600.timing.waits import CAUSES, account
+from cdc6600.timing.reservations import rows_of
+from cdc6600.timing.waits import CAUSES, Account
 
 from .following import Fault
 from .forms import Form, picture_of
 from .page import legend_of, picture_style, read
+from .tables import reservations
 
 HEADS = ("Waits of the issuing position", "Waits of the reservations")
 
@@ -24,9 +25,10 @@ class Timed:
 
     def __init__(self, following, name, times):
         self.following, self.name = following, name
-        clock = account(following, times)
+        self.account = Account(following, times)
+        clock = self.account.clock
         self.total = clock.now if clock.issuing.ended is None else clock.issuing.ended
-        self.form = Form(following, clocked(following, times))
+        self.form = Form(following, self.account.cycles)
         waits = Counter()
         for part in clock.parts:
             waits.update(part.waits)
@@ -56,6 +58,12 @@ class Timed:
             form.add_row(root, row)
         drawn = [ET.tostring(it, encoding="unicode") for it in (labels, root)]
         return f'<div class="pair"><div class="labels" aria-hidden="true">{drawn[0]}</div>\n{drawn[1]}</div>\n'
+
+
+    def reservations(self):
+        """The table of its reservations, below its name."""
+        found = rows_of(self.following, self.account)
+        return f"<h3>{html.escape(self.name)}</h3>\n{reservations(found, True, self.name)}"
 
 
 def titles_of(files):
@@ -109,7 +117,7 @@ class Comparison:
         pictures = "".join(f"<h2>{name}</h2>\n{it.picture()}" for name, it in zip(names, self.sessions))
         return Template(read("comparison.html")).substitute(
             style=read("page.css") + picture_style(), title=" and ".join(names), pictures=pictures, rows=rows,
-            issue=self.issue(),
+            issue=self.issue(), reservations="".join(it.reservations() for it in self.sessions),
             heads="".join(f'<th scope="col">{name}</th>' for name in names),
             legends="".join(map(legend_of, self.sessions[0].form.legends)),
         )

@@ -153,7 +153,7 @@ const moves = {
 const isPlain = (event) => !(event.altKey || event.ctrlKey || event.metaKey || event.shiftKey);
 
 function press(event) {
-  if (isPlain(event) && event.target.id !== "slider" && event.key in moves) {
+  if (isPlain(event) && !event.target.closest("#slider, .wide") && event.key in moves) {
     event.preventDefault();
     moves[event.key]();
   }

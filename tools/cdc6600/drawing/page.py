@@ -11,10 +11,14 @@ import xml.etree.ElementTree as ET
 from pathlib import Path
 from string import Template
 
+from cdc6600.timing.reservations import rows_of
+from cdc6600.timing.waits import Account
+
 from .following import ENDS, IN_CHANNEL, IN_HOPPER, RESERVED
 from .forms import COLOURS, EVENTS, KINDS, REFUSED, SVG, Form, picture_of
 from .judging import states_of
 from .panel import ROOM, Panel, holding
+from .tables import reservations
 from .telling import sentence
 from .values import REGISTERS, all_values, changes, number_of
 from .words import Words
@@ -35,10 +39,11 @@ COLOUR_NAMES = {COLOURS[RESERVED]: "reserved", COLOURS[IN_HOPPER]: "hopper", COL
 class Page:
     """The page of a session: what each step shows, and the text of it all."""
 
-    def __init__(self, following, title, description="", links="", cycles=None):
+    def __init__(self, following, title, description="", links="", times=None):
         self.following, self.title, self.description, self.links = following, title, description, links
-        self.states = states_of(following)
-        self.words, self.form = Words(following, self.states), Form(following, cycles)
+        self.states, self.account = states_of(following), Account(following, times) if times else None
+        self.form = Form(following, self.account.cycles if times else None)
+        self.words = Words(following, self.states)
         self.values = all_values(following, self.states)
 
     def steps(self):
@@ -80,6 +85,7 @@ class Page:
             legends="".join(map(legend_of, self.form.legends)),
             count=len(steps), banks=bank_cells(), **{part: table_of(part) for part in HEADS},
             values=tables_of_values(self.values[0]),
+            reservations=reservations(rows_of(following, self.account), bool(self.account)),
             rows="".join(row_of(n, step, self.words.told(n)) for n, step in enumerate(steps)),
             ending=html.escape(self.ending()), data=json.dumps(self.data(steps)).replace("<", "\\u003c"),
             counted=f"{len(steps)} events, {len(following.rows) - 1} reservations",

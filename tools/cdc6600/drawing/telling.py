@@ -29,7 +29,12 @@ def reservations(rows, numbers):
     return enumerated(reservation(rows, row) for row in numbers)
 
 
+def numbered(numbers):
+    """Reservations by their numbers alone."""
+    numbers = list(numbers)
+    return f"{plural(numbers, 'reservation', 'reservations')} {enumerated(map(str, numbers))}"
+
+
 def of(numbers):
     """Of which reservations something is, by their numbers alone."""
-    numbers = list(numbers)
-    return f"of {plural(numbers, 'reservation', 'reservations')} {enumerated(map(str, numbers))}"
+    return f"of {numbered(numbers)}"

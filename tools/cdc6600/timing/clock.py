@@ -17,7 +17,7 @@ ORDER = "order"
 PARCELS = 4
 
 
-def no_cause(_part):
+def no_cause(_part, _cycles):
     """The cause of a wait, where nobody asks."""
     return ORDER
 
@@ -68,7 +68,7 @@ class Part:
 
 class Clock:
     """Counts minor cycles while events are made. `cause` is called for each part that is ready and waits when time goes
-    on; it says what the part waits for."""
+    on, with the cycles of the wait; it says what the part waits for."""
 
     def __init__(self, times, cause=no_cause):
         self.times, self.cause, self.now = times, cause, 0
@@ -81,7 +81,7 @@ class Clock:
         for part in (self.issuing, *self.pending):
             begin = max(self.now, part.ready)
             if begin < cycle:
-                part.waits[self.cause(part)] += cycle - begin
+                part.waits[self.cause(part, cycle - begin)] += cycle - begin
         self.now = cycle
 
     def issue(self, text):

@@ -38,6 +38,10 @@ class Times:
         return self.cycles[unit.rstrip("12")]
 
 
+# Times that say nothing: only the order of the events counts.
+NO_TIMES = Times(dict.fromkeys(LEAST, 0))
+
+
 def shown(word):
     """A word of a file as a fault shows it."""
     return "'" + re.sub(r"[^ -~]", "?", word)[:32] + "'"

@@ -5,10 +5,14 @@ its last event. The cause is the refusal that the machine would answer, or the o
 be made.
 """
 
+from dataclasses import dataclass
+
 from cdc6600.drawing.following import AFTER
-from cdc6600.drawing.judging import Judge, states_of
+from cdc6600.drawing.judging import Judge, Refusal, states_of
+from cdc6600.drawing.telling import numbered
 
 from .clock import ORDER, Clock, Feed
+from .times import NO_TIMES
 
 # The causes of waits by the numbers of refusals, as they are printed.
 CAUSES = {
@@ -20,18 +24,60 @@ CAUSES = {
 }
 
 
+@dataclass(frozen=True)
+class Hold:
+    """What holds a reservation: the kind of its next event, and its refusal, or none if only the order of the schedule
+    delays it. `cycles` counts the minor cycles, and is 0 if there are no times."""
+
+    event: str
+    refusal: Refusal | None
+    cycles: int = 0
+
+    @property
+    def reason(self):
+        """The refusal, or that there is only the order."""
+        return self.refusal.answer if self.refusal else CAUSES[ORDER]
+
+    @property
+    def text(self):
+        """The event, its refusal, the reservations that hold it back, and the cycles."""
+        by = f" ({numbered(self.refusal.rows)})" if self.refusal and self.refusal.rows else ""
+        cycles = f", {self.cycles} {'cycle' if self.cycles == 1 else 'cycles'}" if self.cycles else ""
+        return f"{self.event}: {self.reason}{by}{cycles}"
+
+
 class Judged:
-    """Says by the rules what a part of a session waits for. `n` is the number of events that were made."""
+    """Says by the rules what a part of a session waits for. `n` is the number of events that were made.
+
+    `holds` has for each reservation its holds by their events and causes, the last one at the end. A wait of the
+    issuing position belongs to the reservation that is issued next, unless an exchange comes before."""
 
     def __init__(self, following):
         self.following, self.states, self.n = following, states_of(following), 0
+        self.holds, self.issued_next = [{} for _ in following.rows], issued_next(following)
 
-    def cause(self, part):
-        """The number of the refusal of a part's next event, or that only the order of the schedule delays it."""
+    def row(self, part):
+        """The reservation that a part makes its next event for, or 0."""
+        return part.number or self.issued_next[self.n]
+
+    def refusal(self, part):
+        """The refusal of a part's next event, or none."""
         log = self.following.logs[self.n - 1] if self.n else "none"
         state = self.states[self.n]
-        refusal = Judge(state, self.following, log).refusal(self.event(part, state))
+        return Judge(state, self.following, log).refusal(self.event(part, state))
+
+    def cause(self, part, cycles):
+        """The number of the refusal of a part's next event, or that only the order of the schedule delays it. It is
+        counted as a hold of so many cycles."""
+        refusal = self.refusal(part)
+        self.hold(part, refusal, cycles)
         return refusal.code if refusal else ORDER
+
+    def hold(self, part, refusal, cycles=0):
+        """Counts a hold."""
+        holds, key = self.holds[self.row(part)], (part.event, refusal.code if refusal else ORDER)
+        before = holds.pop(key, None)
+        holds[key] = Hold(part.event, refusal, cycles + (before.cycles if before else 0))
 
     @staticmethod
     def event(part, state):
@@ -43,16 +89,49 @@ class Judged:
         return f"return {part.channel}" if part.event == "return" else part.event
 
 
+def issued_next(following):
+    """For each event the reservation that is issued next from there on, or 0: then an exchange or an issue without a
+    reservation comes first."""
+    rows, row, found = {n: row for row, n in following.marks}, 0, []
+    for n in reversed(range(following.columns)):
+        kind = following.session.events[n]
+        if kind in ("issue", "exchange") and not following.is_refused(n):
+            row = rows[n]
+        found.append(row)
+    return found[::-1]
+
+
+class Account:
+    """The account of a session that was followed to its end: the minor cycle of each event in `cycles`, and the holds
+    of each reservation. The parts of its clock have their waits: `issuing`, and in `parts` each reservation."""
+
+    def __init__(self, following, times):
+        judged = Judged(following)
+        self.clock, self.holds, self.cycles = Clock(times, judged.cause), judged.holds, []
+        feed = Feed(following, self.clock)
+        for n in range(following.columns):
+            judged.n = n
+            feed.event(n)
+            self.cycles.append(self.clock.now)
+
+
 def account(following, times):
-    """The clock of a session that was followed to its end. Its parts have their waits: `issuing`, and in `parts` each
-    reservation."""
-    judged = Judged(following)
-    clock = Clock(times, judged.cause)
+    """The clock of a session that was followed to its end, with the waits of its parts."""
+    return Account(following, times).clock
+
+
+def holds_by_events(following):
+    """The holds of each reservation without times: the refusals of its next event in the states between its events."""
+    judged, clock = Judged(following), Clock(NO_TIMES)
     feed = Feed(following, clock)
     for n in range(following.columns):
         judged.n = n
+        for part in (it for it in (clock.issuing, *clock.pending) if judged.row(it)):
+            refusal = judged.refusal(part)
+            if refusal:
+                judged.hold(part, refusal)
         feed.event(n)
-    return clock
+    return judged.holds
 
 
 def faults_of(clock):
