@@ -3,17 +3,17 @@
     tools/check browser                      tries each page
     tools/check browser --pictures FOLDER    takes pictures of some of them as well, as PNG files
 
-Each page is gone through by the keyboard, by its buttons and by its slider, and what is shown at each step is compared:
-the event with the session's line, its answer with that of `cdc6600 events`, at the end the dump, and the words and the
-panel with what tools/cdc6600/drawing works out. The cursor has to stand at the number of the event in the picture. Then
-it tries that a page asks for nothing but itself; that at a width of 360 pixels, and with everything twice as large,
-nothing but the picture scrolls sideways; that the picture and the panel are in sight while one steps; that what can be
-clicked has 24 pixels at least; that the address names the step, and opens the page there; that in light and dark all
-text differs enough from what is behind it; that without scripts, and on paper, there are the picture and the table of
-all events, and no controls; and that each control has a role and a name for a screen reader. The page of tools/explore
-for the deck of the first run is tried by keys and a button, and in width and contrast. The page by minor cycles of a
-schedule is gone through by keyboard, with the cursor at the cycle of each event. The page of two schedules has to open
-at the first issue, and is tried in width and contrast.
+Each page is gone through by the keyboard, by its buttons, by its slider and with hidden answers, and what is shown at
+each step is compared: the event with the session's line, its answer with that of `cdc6600 events`, at the end the dump,
+and the words and the panel with what tools/cdc6600/drawing works out. The cursor has to stand at the number of the
+event in the picture. Then it tries that a page asks for nothing but itself; that at a width of 360 pixels, and with
+everything twice as large, nothing but the picture scrolls sideways; that the picture and the panel are in sight while
+one steps; that what can be clicked has 24 pixels at least; that the address names the step, and opens the page there;
+that in light and dark all text differs enough from what is behind it; that without scripts, and on paper, there are the
+picture and the table of all events, and no controls; and that each control has a role and a name for a screen reader.
+The page of tools/explore for the deck of the first run is tried by keys and a button, and in width and contrast. The
+page by minor cycles of a schedule is gone through by keyboard, with the cursor at the cycle of each event, and by its
+cycles. The page of two schedules is tried in width and contrast.
 
 It says nothing where all is right, else the page and what is wrong. It needs `chromium` and `chromedriver`: root has
 what is missing installed from Debian. CDC6600 may name the program to ask.
@@ -38,7 +38,7 @@ from cdc6600.shared.program import ROOT, Program, tell
 from cdc6600.shared.waiting import Missing, run, wait_until
 
 from .debian import provide
-from .page_scripts import CONTRAST, FIRST_COLUMN, HIDDEN, SCROLLED, SHOWN, SMALL, STILL
+from .page_scripts import ASKED, CONTRAST, HIDDEN, SCROLLED, SHOWN, SMALL, STILL
 from .web_driver import Browser, Refused
 
 WIDE, NARROW = (1280, 900), (360, 740)
@@ -51,8 +51,8 @@ LEAST_CONTRAST = 4.5
 CONTROLS = {
     "#first": ("button", "First"), "#back": ("button", "Back"), "#next": ("button", "Next"),
     "#last": ("button", "Last"), "#slider": ("slider", "Event"), "header": ("banner", ""),
-    "#picture": ("img", "Timeline of {name}"), "main": ("main", ""), "#step": ("region", "Event 1"),
-    ".controls": ("region", "Steps"),
+    "#hiding": ("checkbox", "Hide each answer"), "#picture": ("img", "Timeline of {name}"), "main": ("main", ""),
+    "#step": ("region", "Event 1"), ".controls": ("region", "Steps"),
 }
 PICTURES = {
     "wide-light": (1280, 1060, "light", 1), "wide-dark": (1280, 1060, "dark", 1),
@@ -168,6 +168,19 @@ class Trial:
             self.browser.run("document.querySelector(arguments[0]).click();", selector)
             self.compare(n, f"by the link {selector}")
 
+    def by_asking(self):
+        """Goes through all steps with each answer hidden until the next key."""
+        self.browser.press("Home")
+        self.browser.click(self.browser.element("#hiding"))
+        for n in range(self.tried.count):
+            for is_asked in (False, True):
+                came, wanted = self.browser.run(ASKED), [str(n + 1), is_asked, not is_asked, False]
+                if came != wanted:
+                    self.fault(f"event {n + 1} with hidden answers: {came}, and should be {wanted}")
+                self.browser.press("Right")
+        self.browser.click(self.browser.element("#hiding"))
+        self.compare(self.tried.count - 1, "after hidden answers")
+
     def scrolls(self):
         """That nothing but the picture scrolls sideways in a narrow window, or where all is enlarged."""
         for width, height in (NARROW, *ENLARGED):
@@ -234,8 +247,8 @@ class Trial:
         self.browser.show_as(*WIDE)
         self.open()
         self.names()
-        for work in (self.by_keyboard, self.by_buttons, self.by_slider, self.by_row, self.scrolls, self.in_sight,
-                     self.contrasts, self.address):
+        for work in (self.by_keyboard, self.by_buttons, self.by_slider, self.by_row, self.by_asking, self.scrolls,
+                     self.in_sight, self.contrasts, self.address):
             work()
         self.browser.show_as(*WIDE, media="print")
         self.still("on paper")
@@ -307,21 +320,33 @@ def timed_pages(folder):
     return made(folder / "cycles.html", "timeline", "--html", "--cycles", timed), compared
 
 
+def faults_by_cycle(browser, numbers):
+    """Goes through a page by its minor cycles, by the buttons; the faults. Each step shows a cycle's last event."""
+    faults, lasts = [], [numbers.index(cycle) + numbers.count(cycle) for cycle in sorted(set(numbers))]
+    browser.press("Home")
+    for button, wanted in (("#cycle-on", lasts[1:]), ("#cycle-back", lasts[-2::-1])):
+        for number in wanted:
+            browser.click(browser.element(button))
+            came = browser.run(SHOWN)["number"]
+            faults += [f"cycles.html: {button} leads to event {came}, and not {number}"] * (came != str(number))
+    return faults
+
+
 def faults_of_timed(browser, folder):
     """Tries the page by minor cycles and the page of two schedules; their faults."""
     cycles, compared = timed_pages(folder)
     faults = [f"cycles.html: {fault}" for fault in faults_of_opening(browser, cycles) + faults_of_look(browser)]
-    columns = json.loads(DATA.search(cycles.read_text(encoding="utf-8"))[1])["columns"]
+    numbers = json.loads(DATA.search(cycles.read_text(encoding="utf-8"))[1])["cycles"]
     browser.press("Home")
-    for n, column in enumerate(columns):
+    for n, column in enumerate(numbers):
         came, wanted = browser.run(SHOWN), {"number": str(n + 1), "column": str(column)}
         faults += [f"cycles.html: event {n + 1}: {name} is {came[name]}, and should be {wanted[name]}"
                    for name in wanted if came[name] != wanted[name]]
         browser.press("Right")
-    faults += [f"compared.html: {fault}" for fault in faults_of_opening(browser, compared) + faults_of_look(browser)]
-    browser.open(compared.as_uri())
-    first, issued = browser.run(FIRST_COLUMN), str(columns[2])
-    return faults + [f"compared.html: it opens at cycle {first}, and not at {issued}"] * (first != issued)
+    faults += faults_by_cycle(browser, numbers)
+    return faults + [
+        f"compared.html: {fault}" for fault in faults_of_opening(browser, compared) + faults_of_look(browser)
+    ]
 
 
 def take_pictures(browser, folder, pictures):

@@ -4,6 +4,8 @@
   cycle that was counted by hand. The picture of a page stays where it is at events of no reservation.
 - The table of the reservations has the events and the minor cycles that were counted by hand, and what held each one:
   as text, as JSON, and on the pages of a session and of two schedules.
+- The pictures begin at the first issue. Each unit has its reservations in the picture of the units. For paper the
+  pictures are in pieces of 40 columns.
 - The page that compares two schedules of a deck has to say of each what `tools/schedule --summary` says, by each
   policy: the instructions, the cycles, and the waits with their causes.
 - tools/gallery writes the pages of sessions and decks that it is given.
@@ -18,24 +20,32 @@ import json
 import re
 import tempfile
 import xml.etree.ElementTree as ET
+from collections import Counter
 from pathlib import Path
 
+from cdc6600.drawing.following import RESERVED
+from cdc6600.drawing.forms import BAR_RISE, COLOURS
 from cdc6600.drawing.instructions import NAMES
 from cdc6600.drawing.page import DATA
-from cdc6600.shared.decks import deck, session
+from cdc6600.shared.decks import FOLDER, deck, session
 from cdc6600.shared.program import ROOT, tell
 from cdc6600.shared.waiting import run
 from cdc6600.timing.scheduling import POLICIES, TIMED
 
 from .scheduling import BANK, DECK
 
-TIMELINE, GALLERY, SCHEDULE = (ROOT / "tools" / name for name in ("timeline", "gallery", "schedule"))
+TIMELINE, GALLERY, SCHEDULE, ASSEMBLE = (
+    ROOT / "tools" / name for name in ("timeline", "gallery", "schedule", "assemble")
+)
 TIMES = "issue15 1\nissue30 2\nboolean 3\nshift 3\nlongadd 4\nincrement 3\ndivide 8\nuntaken 5\ntaken 8\nhopper 1\n" \
     "access 5\nbank 10\nexchange 0\n"
 # The cycles of the events of the session conflicts by these times. The increments of 30 bits are issued at 0 and 2, the
 # sum at 4. The first read comes after that issue, at 4; its increment stores at 7, the second one at 10, the sum at 14,
 # where the difference is issued. The last issue takes one cycle more.
 COUNTED = [0, 0, 0, 2, 4, 4, 4, 4, 7, 7, 7, 10, 10, 10, 14, 14, 14, 15]
+# Where its rows begin that aren't issued by so many events. Four are issued, by the events 3, 4, 5 and 17.
+BELOW = [*[72] * 3, 94, 116, *[138] * 12, 160, 160]
+TOTALS = [("Minor cycles", "15"), ("Instructions", "4"), ("Instructions a minor cycle", "0.267")]
 # What each row has in its cycles.
 MARKS = {
     "machine": {0: "QX", 4: "E7", 15: "D"}, "1": {0: "I", 4: "R", 7: "FS"}, "2": {2: "I", 7: "R", 10: "FS"},
@@ -73,7 +83,10 @@ OBJECT = {
 # The letters of a label and of a column in this text.
 LABEL, COLUMN = 24, 5
 # The rows of the page of two schedules that come first.
-COUNTS = ("Instructions", "Minor cycles", "Instructions a minor cycle")
+COUNTS = (
+    "Instructions", "Minor cycles", "Instructions a minor cycle", "Minor cycles without the first exchange",
+    "Instructions a minor cycle without the first exchange",
+)
 ROW = re.compile(r'<tr><th scope="row">([0-9]+)</th>((?:<td>[^<]*</td>){9})</tr>')
 TD = re.compile(r'<tr><th scope="row">([^<]*)</th><td>([^<]*)</td><td>([^<]*)</td></tr>')
 
@@ -108,10 +121,17 @@ def faults_of_picture(words):
 
 
 def faults_of_page(words):
-    """Where the page's cursor is in another column."""
-    data = json.loads(DATA.search(printed(TIMELINE, "--html", *words))[1])
+    """Where the page's cursor is in another column, or the totals aren't first and as counted."""
+    page = printed(TIMELINE, "--html", *words)
+    data = json.loads(DATA.search(page)[1])
     came = data["columns"]
-    return [] if came == COUNTED else [f"the page has the cycles {came}, and should have {COUNTED}"]
+    order = re.findall('id="title-(totals|reservations|picture)"', page)
+    faults = [] if came == COUNTED else [f"the page has the cycles {came}, and should have {COUNTED}"]
+    faults += [f"the page steps by the cycles {data['cycles']}"] * (data["cycles"] != COUNTED)
+    faults += [f"the page hides the rows below {data['below']}"] * (data["below"] != BELOW)
+    faults += [f"the page has the order {order}"] * (order != ["totals", "reservations", "picture"])
+    totals = re.findall('<tr><th scope="row">([^<]*)</th><td>([^<]*)</td></tr>', page)[: len(TOTALS)]
+    return faults + [f"the page has the totals {totals}, and should have {TOTALS}"] * (totals != TOTALS)
 
 
 def faults_in_sight():
@@ -175,10 +195,11 @@ class Told:
 def told_by_summary(policy, file):
     """What `tools/schedule --summary` tells."""
     said = printed(SCHEDULE, "--summary", "--policy", policy, file)
-    first, *lines = said.splitlines()
+    first, then, *lines = said.splitlines()
+    running = re.fullmatch(r"without the first exchange: (\d+) minor cycles, ([0-9.]+) instructions a cycle", then)
     rows = [re.fullmatch(r"(?:  waits: (.*\S) +(\d+)|(the .*):)", line) for line in lines]
     waits = [(row[1] or row[3], row[2] or "", bool(row[3])) for row in rows if row]
-    return Told(re.search(r"(\d+) instructions in (\d+) .*, ([0-9.]+) inst", first).groups(), waits)
+    return Told(re.search(r"(\d+) instructions in (\d+) .*, ([0-9.]+) inst", first).groups() + running.groups(), waits)
 
 
 def told_by_page(files):
@@ -216,6 +237,52 @@ def faults_of_gallery(folder):
     faults = [] if is_right else [f"tools/gallery writes {pages}: {said}"]
     links = ['<a href="one%20%26%20%3Ctwo%3E.html">one &amp; &lt;two&gt;</a>', '<a href="shift.html">shift</a>']
     return faults + [f"index.html hasn't {link}" for link in links if link not in index]
+
+
+def svgs_of(page):
+    """The pictures of a page: for each its label, the numbers of its columns, its other marks with the heights of their
+    rows, and the columns with a bar of a reserved unit, counted by these heights."""
+    for text in re.findall(r"<svg.*?</svg>", page, re.DOTALL):
+        root = ET.fromstring(text)
+        texts = [it for it in root.iter() if it.get("text-anchor") == "middle"]
+        numbers = {it.get("x"): int(it.text) for it in texts if it.get("y") == "22"}
+        marks = [(int(it.get("y")), numbers[it.get("x")], it.text) for it in texts if numbers and it.get("y") != "22"]
+        bars = Counter(int(it.get("y")) + BAR_RISE for it in root.iter() if it.get("fill") == COLOURS[RESERVED])
+        yield root.get("aria-label"), list(numbers.values()), marks, bars
+
+
+def faults_of_units(folder):
+    """Where the picture of the units, of two-adds on a page of two schedules, has a reservation elsewhere: the
+    increments have those issued at 26 and 28, Long Add those issued at 30 and 34. All pictures begin at the first
+    issue."""
+    (folder / "units.session").write_text(printed(SCHEDULE, ROOT / DECK), encoding="ascii")
+    page = printed(TIMELINE, "--html", "--compare", folder / "units.session", folder / "units.session")
+    drawn = [it for it in svgs_of(page) if it[0]]
+    rows = {5: 22 * 6, 9: 22 * 10, 10: 22 * 11}
+    wanted = [(rows[5], 30, "3"), (rows[5], 34, "4"), (rows[9], 26, "1"), (rows[10], 28, "2")]
+    wanted = wanted, {rows[5]: 4 + 3, rows[9]: 3, rows[10]: 3}
+    held = [(marks, bars) for label, _, marks, bars in drawn if label.startswith("The units of")]
+    faults = [] if held == [wanted, wanted] else [f"the units have {held}, and should have {wanted} twice"]
+    columns = [0, *range(26, 38)]
+    return faults + [f"{label}: the columns are {numbers}" for label, numbers, *_ in drawn if numbers != columns]
+
+
+def faults_of_pieces(folder):
+    """Where a page on paper isn't in pieces of 40 columns, each with the rows that have something there."""
+    (folder / "loop.deck").write_text(printed(ASSEMBLE, FOLDER / "source/total.source"), encoding="ascii")
+    (folder / "loop.session").write_text(printed(SCHEDULE, folder / "loop.deck"), encoding="ascii")
+    page = printed(TIMELINE, "--html", "--cycles", folder / "loop.session")
+    timeline, units = (list(svgs_of(part)) for part in re.findall(r'<div class="pieces".*?</div>', page, re.DOTALL))
+    wanted, faults = [[0, *range(26, 65)], list(range(65, 78))], []
+    for name, found in (("timeline", timeline), ("units", units)):
+        came = [numbers for _, numbers, *_ in found]
+        faults += [f"the {name} is in pieces with the columns {came}"] * (came != wanted)
+    marks = [it for _, _, marks, _ in timeline for it in marks if it[0] > 66]
+    whole = max((marks for _, _, marks, _ in svgs_of(page)), key=len)
+    missing = len([it for it in whole if it[0] > 66]) - len(marks)
+    rows = max(height for _, _, marks, _ in timeline[1:] for height, *_ in marks)
+    is_right = (missing, rows) == (0, 22 * 6)
+    return faults if is_right else [*faults, f"the pieces miss {missing} marks, and the last row is at {rows}"]
 
 
 def faults_of_refusals(folder):
@@ -256,6 +323,6 @@ def main():
         faults += faults_of_json(folder)
         for name in ("load-store", "subroutine"):
             faults += faults_of_comparison(folder, name)
-        for work in (faults_of_gallery, faults_of_refusals):
+        for work in (faults_of_units, faults_of_pieces, faults_of_gallery, faults_of_refusals):
             faults += work(folder)
     return tell(faults)

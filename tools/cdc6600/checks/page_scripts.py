@@ -32,6 +32,13 @@ return {
 };
 """
 
+# While answers are hidden: the number of the event, and whether its answer, the button for it and the table of all
+# events are in sight.
+ASKED = r"""
+const isShown = (id) => document.getElementById(id).checkVisibility();
+return [document.getElementById("number").textContent, isShown("told"), isShown("ask"), isShown("all-events")];
+"""
+
 # What is wider than the window: the page, or a part of it outside the boxes that scroll.
 SCROLLED = r"""
 const width = document.documentElement.clientWidth;
@@ -53,13 +60,6 @@ const middle = (cursor.left + cursor.right) / 2;
 const isPicture = inWindow(picture) && picture.top >= 0 && picture.left <= middle && middle <= picture.right;
 const others = ["panel", "next"].filter((id) => !inWindow(document.getElementById(id).getBoundingClientRect()));
 return [...(isPicture ? [] : ["the picture isn't in sight"]), ...others.map((id) => `#${id} isn't in sight`)];
-"""
-
-# The first number in sight in the pictures of two schedules: the leftmost one beside the labels.
-FIRST_COLUMN = r"""
-const covered = document.querySelector(".labels").getBoundingClientRect().right;
-const numbers = [...document.querySelectorAll('.pair > svg text[y="22"][text-anchor="middle"]')];
-return numbers.filter((it) => it.getBoundingClientRect().left >= covered)[0].textContent;
 """
 
 # What can be clicked, other than the links of a sentence, and has fewer than 24 pixels in a direction.
@@ -118,7 +118,8 @@ STILL = r"""
 const isShown = (selector) => document.querySelector(selector).checkVisibility();
 const rows = [...document.querySelectorAll(".events tbody tr")].filter((row) => row.checkVisibility());
 return {
-  controls: isShown("#stepping"), picture: isShown("#picture"), ending: isShown("#ending pre"),
+  controls: isShown("#stepping"), ending: isShown("#ending pre"),
+  picture: isShown("#picture") || isShown(".pieces svg"),
   events: rows.map((row) => row.cells[1].textContent),
 };
 """

@@ -5,6 +5,7 @@ import xml.etree.ElementTree as ET
 from bisect import bisect_left
 
 from .following import IN_CHANNEL, IN_HOPPER, LETTER, RESERVED
+from .instructions import UNITS
 
 SVG, SPACE = "http://www.w3.org/2000/svg", "{http://www.w3.org/XML/1998/namespace}space"
 COLOURS = {RESERVED: "#cfe0f5", IN_HOPPER: "#f7dfa5", IN_CHANNEL: "#cdebc8"}
@@ -25,23 +26,31 @@ LEGENDS = [
     "machine: Q exchange asked for, --- until X made   I issued without a unit   B8 bank 8 freed",
 ]
 CYCLES = "cycle: minor cycles by the file of times; a column has all events of its cycle, refused ones too"
+BEGIN = "The first issue is at cycle {}. An earlier cycle without an event has no column."
 LETTERS = "The small letters say what each event is: l a return, q an ask, d the drain, e the end."
 
 
 class Form:
-    """The drawing: the labels of its rows, its marks and gaps by row and column, and the lines below it. `column_of`
-    has the column of each event, and `events` the events of each column."""
+    """The drawing: the labels of its rows, its marks and gaps by row and column, and the lines below it. `numbers` has
+    what stands above each column, `column_of` the column of each event, and `events` the events of each column.
 
-    def __init__(self, following, cycles=None):
+    With minor cycles `start` has the numbers of the first columns, up to the first issue."""
+
+    def __init__(self, following, cycles=None, start=None):
         self.following, self.is_timed = following, cycles is not None
-        self.column_of = cycles if self.is_timed else list(range(following.columns))
-        self.events = [[] for _ in range(max(self.column_of, default=-1) + 1)]
+        moments = cycles if self.is_timed else range(1, following.columns + 1)
+        start = (start or start_of([(following, cycles)])) if self.is_timed else []
+        after = start[-1] + 1 if start else 1
+        self.numbers = [*start, *range(after, max(moments, default=0) + 1)]
+        columns = {number: column for column, number in enumerate(self.numbers)}
+        self.column_of = [columns[moment] for moment in moments]
+        self.events = [[] for _ in self.numbers]
         for n, column in enumerate(self.column_of):
             self.events[column].append(n)
-        reserved = [f"{row:2d} {it.unit:<10} {it.text}" for row, it in enumerate(following.rows) if row]
-        self.labels = dict(enumerate(["cycle" if self.is_timed else "event", "", "machine", *reserved], EVENTS))
+        self.labels = dict(enumerate(self.names(), EVENTS))
         self.wide = max(len(label) for label in self.labels.values())
-        self.legends = [*LEGENDS, *[ACCESSES] * following.has_accesses, *[CYCLES] * self.is_timed, LETTERS]
+        begins = [BEGIN.format(start[-1])] * (len(start) <= start[-1]) if start else []
+        self.legends = [*LEGENDS, *[ACCESSES] * following.has_accesses, *[CYCLES] * self.is_timed, *begins, LETTERS]
         self.last_lines = [*following.refused, following.ending]
         # The first event of each column or, in an empty one, the next event.
         self.firsts = [bisect_left(self.column_of, column) for column in range(len(self.events))]
@@ -49,6 +58,11 @@ class Form:
         columns = range(len(self.events))
         self.longest = max((len(self.mark(row, at)) for row in self.labels for at in columns), default=1)
         self.arrange(self.wide, max(COLUMN, LETTER_WIDTH * self.longest + GAP), len(self.events))
+
+    def names(self):
+        """The labels of the rows, from above."""
+        reserved = [f"{row:2d} {it.unit:<10} {it.text}" for row, it in enumerate(self.following.rows) if row]
+        return ["cycle" if self.is_timed else "event", "", "machine", *reserved]
 
     def arrange(self, wide, column, columns):
         """Arranges the picture for labels of so many letters, and for so many columns of a width: where the first one
@@ -59,7 +73,7 @@ class Form:
     def mark(self, row, column):
         """What a row has in a column."""
         if row == EVENTS:
-            return str(column if self.is_timed else column + 1)
+            return str(self.numbers[column])
         return "".join(self.mark_of_event(row, n) for n in self.events[column])
 
     def mark_of_event(self, row, n):
@@ -75,7 +89,7 @@ class Form:
     def text(self):
         """The drawing as text."""
         columns = range(len(self.events))
-        width = max(len(str(len(columns))) + 1, 4, self.longest + 1 if self.is_timed else 0)
+        width = max(len(str(max(self.numbers, default=0))) + 1, 4, self.longest + 1 if self.is_timed else 0)
         lines = []
         for row, label in self.labels.items():
             marks = "".join(self.padded(row, n, width) for n in columns)
@@ -97,26 +111,34 @@ class Form:
         self.add_lines(root, LINE * len(self.labels))
         return written(root)
 
-    def add_label(self, root, row):
-        """Adds a row's label."""
+    def add_label(self, root, row, y=None):
+        """Adds a row's label, at its own height or at another one."""
         if self.labels[row]:
-            add_text(root, MARGIN, self.line_of(row), self.labels[row])
+            add_text(root, MARGIN, y or self.line_of(row), self.labels[row])
 
     @staticmethod
     def line_of(row):
         """How far down a row is written."""
         return LINE * (row - EVENTS + 1)
 
-    def add_row(self, root, row):
-        """Adds a row's bars, and over them its marks."""
-        y, wide, middle = self.line_of(row), self.column, self.left + self.column // 2
-        columns = range(len(self.events))
+    def add_row(self, root, row, y=None, columns=None):
+        """Adds a row's bars, and over them its marks: at its own height or at another one, of all columns or of some
+        of them."""
+        columns = range(len(self.events)) if columns is None else columns
+        y, wide = y or self.line_of(row), self.column
+        middle = self.left + wide // 2 - wide * columns.start
         for at in (at for at in columns if self.gap(row, at)):
-            add_bar(root, middle + wide * (at - 1), y, wide, self.gap(row, at))
+            x = max(middle + wide * (at - 1), self.left)
+            add_bar(root, x, y, middle + wide * at - x, self.gap(row, at))
         for at in (at for at in columns if self.mark(row, at)):
             mark = self.mark(row, at)
             colour = {"fill": REFUSED} if mark.startswith("E") else {}
             add_text(root, middle + wide * at, y, mark, {"text-anchor": "middle", **colour})
+
+    def rows_in(self, columns):
+        """The rows of some columns: those above the reservations, and those with a mark or a bar there."""
+        return [row for row in self.labels
+                if row <= 0 or any(self.mark(row, at) or self.gap(row, at) for at in columns)]
 
     def add_lines(self, root, y):
         """Adds the lines below the rows, the last of which stands at a height."""
@@ -134,6 +156,60 @@ class Form:
                 add_bar(root, LETTER_WIDTH * (legend.index(3 * gap) + 1), y, 28, gap)
                 legend = legend.replace(3 * gap, "   ", 1)
             add_text(root, MARGIN, y, legend)
+
+
+class UnitForm(Form):
+    """The drawing with a row for each unit. A reservation has its number at its issue, and from there on a bar up to
+    its store event."""
+
+    def __init__(self, following, cycles=None, start=None):
+        self.held = held_units(following)
+        super().__init__(following, cycles, start)
+
+    def names(self):
+        """The labels of the rows, from above."""
+        return ["cycle" if self.is_timed else "event", *UNITS]
+
+    def unit(self, row):
+        """The unit of a row."""
+        return self.labels[row]
+
+    def mark_of_event(self, row, n):
+        """What a row has at an event: the number of the reservation that is issued to the unit."""
+        after = self.held[n + 1].get(self.unit(row), 0)
+        return str(after) if after and after != self.held[n].get(self.unit(row)) else ""
+
+    def gap(self, row, column):
+        """What a row has between a column and the one before."""
+        return RESERVED if row != EVENTS and self.unit(row) in self.held[self.firsts[column]] else ""
+
+    def rows_in(self, columns):
+        """The rows of some columns: all."""
+        return list(self.labels)
+
+
+def held_units(following):
+    """The reservations by the units that they hold: before each event, and at the end."""
+    found, now = [{}], {}
+    rows = {n: row for row, n in following.marks if row}
+    for n in range(following.columns):
+        kind, row = following.session.events[n].split(" ")[0], rows.get(n)
+        if kind == "drain":
+            now = {}
+        elif kind in ("issue", "store") and row and not following.is_refused(n):
+            now = {unit: other for unit, other in now.items() if other != row}
+            now |= {following.rows[row].unit: row} if kind == "issue" else {}
+        found.append(now)
+    return found
+
+
+def start_of(sessions):
+    """The numbers of the first columns of some sessions with the minor cycles of their events: the earlier cycles with
+    an event, and the cycle of the first issue."""
+    issues = (cycles[n] for following, cycles in sessions for n in range(following.columns)
+              if following.session.events[n] == "issue" and not following.is_refused(n))
+    first = min(issues, default=0)
+    return sorted({first, *(cycle for _, cycles in sessions for cycle in cycles if cycle < first)})
 
 
 def picture_of(width, height):

@@ -3,9 +3,9 @@
 
 const session = JSON.parse(document.getElementById("session").textContent);
 const steps = session.steps;
-const boot = { machine: {}, units: {}, places: {}, channels: {}, banks: {}, registers: {} };
 const byId = (id) => document.getElementById(id);
 let shown = 0;
+let isOpen = true;
 let noting = 0;
 
 // The values after each step, by their names: an event has only those that it changes.
@@ -71,21 +71,56 @@ function showRegisters(step, before) {
   byId("unreserved").hidden = rows.length > 0;
 }
 
-function showValues(step) {
+function showValues(after, changed) {
   for (const element of document.querySelectorAll(".values tbody tr")) {
     const name = element.id.slice("values-".length);
-    values[shown][name].forEach((text, at) => { element.cells[at + 1].textContent = text; });
-    element.classList.toggle("changed", name in step.values);
+    after[name].forEach((text, at) => { element.cells[at + 1].textContent = text; });
+    element.classList.toggle("changed", name in changed);
   }
 }
 
+// The machine after the event or, while its answer is hidden, before it.
+function showPanel(step, before) {
+  const now = isOpen ? step : { ...before, holds: [] };
+  for (const part of ["units", "places", "channels"]) {
+    showPart(part, now, before);
+  }
+  showMachine(now, before);
+  showValues(isOpen ? values[shown] : values[shown - 1] ?? session.values, isOpen ? step.values : {});
+  showBanks(now, before);
+  showRegisters(now, before);
+  byId("title-panel").textContent = `The machine ${isOpen ? "after" : "before"} this event`;
+}
+
 function showStep(step) {
-  byId("which").textContent = `Event ${shown + 1}`;
+  byId("which").textContent = `Event ${shown + 1}${session.cycles ? `, cycle ${session.cycles[shown]}` : ""}`;
   byId("event").textContent = step.event;
   byId("answer").textContent = step.answer;
   byId("words").textContent = step.words;
   byId("verdict").textContent = step.refused ? "Refused" : "Made";
-  byId("step").classList.toggle("refused", step.refused);
+  byId("step").classList.toggle("refused", step.refused && isOpen);
+  byId("told").hidden = !isOpen;
+  byId("ask").hidden = isOpen;
+}
+
+function place(element, x, y) {
+  const picture = element.ownerSVGElement;
+  element.setAttribute("x", x);
+  element.setAttribute("y", y);
+  element.setAttribute("width", Math.max(picture.getAttribute("width") - x, 0));
+  element.setAttribute("height", Math.max(picture.getAttribute("height") - y, 0));
+}
+
+// Covers the events whose answers are hidden in the picture, and the rows of what isn't issued yet.
+function showVeils() {
+  const isHiding = byId("hiding").checked;
+  const told = isHiding ? shown + Number(isOpen) : steps.length;
+  const column = told < steps.length ? session.columns[told] : Infinity;
+  place(byId("veil"), Math.min(session.left + session.column * column, session.width), session.head);
+  for (const element of document.querySelectorAll(".below")) {
+    place(element, 0, session.below[told]);
+  }
+  document.body.classList.toggle("predicting", isHiding);
 }
 
 // A button that would do nothing keeps the focus, so it isn't disabled.
@@ -95,7 +130,11 @@ function showControls(step) {
   byId("number").textContent = shown + 1;
   byId("slider").value = shown + 1;
   byId("slider").setAttribute("aria-valuetext", `${shown + 1} of ${steps.length}, ${step.event}`);
-  for (const [id, isIdle] of [["first", isFirst], ["back", isFirst], ["next", isLast], ["last", isLast]]) {
+  const idle = { first: isFirst, back: isFirst, next: isLast && isOpen, last: isLast };
+  if (session.cycles) {
+    Object.assign(idle, { "cycle-back": cycleFrom(-1) === shown, "cycle-on": cycleFrom(1) === shown });
+  }
+  for (const [id, isIdle] of Object.entries(idle)) {
     byId(id).setAttribute("aria-disabled", isIdle);
   }
 }
@@ -116,19 +155,15 @@ function showCursor() {
   byId(`row-${shown + 1}`).classList.add("current");
 }
 
-function show(n) {
+function show(n, isAsked = false) {
+  const last = shown;
   shown = Math.min(Math.max(n, 0), steps.length - 1);
+  isOpen = isAsked || !byId("hiding").checked || (isOpen && shown === last);
   const step = steps[shown];
-  const before = shown ? steps[shown - 1] : boot;
-  for (const part of ["units", "places", "channels"]) {
-    showPart(part, step, before);
-  }
-  showMachine(step, before);
-  showValues(step);
-  showBanks(step, before);
-  showRegisters(step, before);
+  showPanel(step, shown ? steps[shown - 1] : session.boot);
   showStep(step);
   showControls(step);
+  showVeils();
   showCursor();
   byId("ending").classList.toggle("later", shown < steps.length - 1);
 }
@@ -146,16 +181,33 @@ function go(n) {
   noting = setTimeout(() => history.replaceState(null, "", `#event-${shown + 1}`), 200);
 }
 
-const moves = {
-  ArrowLeft: () => go(shown - 1), ArrowRight: () => go(shown + 1), Home: () => go(0), End: () => go(steps.length - 1),
-};
+// The last event of the next minor cycle with an event, or of the one before; else the one that is shown.
+function cycleFrom(direction) {
+  const now = session.cycles[shown];
+  const others = session.cycles.filter((it) => direction * (it - now) > 0);
+  return others.length ? session.cycles.lastIndexOf(direction > 0 ? others[0] : others[others.length - 1]) : shown;
+}
 
-const isPlain = (event) => !(event.altKey || event.ctrlKey || event.metaKey || event.shiftKey);
+// A step forward from an event whose answer is hidden shows the answer.
+const ask = () => show(shown, true);
+const hide = () => {
+  isOpen = false;
+  show(shown);
+};
+const moves = {
+  ArrowLeft: () => go(shown - 1), ArrowRight: () => (isOpen ? go(shown + 1) : ask()), Home: () => go(0),
+  End: () => go(steps.length - 1),
+};
+const cycleMoves = { ArrowLeft: () => go(cycleFrom(-1)), ArrowRight: () => go(cycleFrom(1)) };
+
+const isFree = (event) => !(event.altKey || event.ctrlKey || event.metaKey);
+const isPlain = (event) => isFree(event) && !event.shiftKey;
 
 function press(event) {
-  if (isPlain(event) && !event.target.closest("#slider, .wide") && event.key in moves) {
+  const known = event.shiftKey ? session.cycles && cycleMoves : moves;
+  if (isFree(event) && !event.target.closest("#slider, .wide") && known && event.key in known) {
     event.preventDefault();
-    moves[event.key]();
+    known[event.key]();
   }
 }
 
@@ -205,6 +257,14 @@ function begin() {
   byId("first").addEventListener("click", moves.Home);
   byId("back").addEventListener("click", moves.ArrowLeft);
   byId("next").addEventListener("click", moves.ArrowRight);
+  byId("ask").addEventListener("click", ask);
+  byId("switch").hidden = false;
+  byId("hiding").addEventListener("change", hide);
+  if (session.cycles) {
+    byId("cycles").hidden = false;
+    byId("cycle-back").addEventListener("click", cycleMoves.ArrowLeft);
+    byId("cycle-on").addEventListener("click", cycleMoves.ArrowRight);
+  }
   byId("last").addEventListener("click", moves.End);
   byId("slider").addEventListener("input", (event) => go(Number(event.target.value) - 1));
   for (const id of ["picture", "heads"]) {

@@ -12,13 +12,15 @@ from pathlib import Path
 from string import Template
 
 from cdc6600.timing.reservations import rows_of
+from cdc6600.timing.totals import Totals
 from cdc6600.timing.waits import Account
 
-from .following import ENDS, IN_CHANNEL, IN_HOPPER, RESERVED
-from .forms import COLOURS, EVENTS, KINDS, REFUSED, SVG, Form, picture_of
+from .following import ENDS, IN_CHANNEL, IN_HOPPER, LETTER, RESERVED
+from .forms import COLOURS, EVENTS, KINDS, REFUSED, SVG, Form, UnitForm, picture_of
 from .judging import states_of
 from .panel import ROOM, Panel, holding
-from .tables import reservations
+from .pictures import HELD, pieces, units
+from .tables import card, reservations, totals
 from .telling import sentence
 from .values import REGISTERS, all_values, changes, number_of
 from .words import Words
@@ -42,7 +44,8 @@ class Page:
     def __init__(self, following, title, description="", links="", times=None):
         self.following, self.title, self.description, self.links = following, title, description, links
         self.states, self.account = states_of(following), Account(following, times) if times else None
-        self.form = Form(following, self.account.cycles if times else None)
+        cycles = self.account.cycles if times else None
+        self.form, self.unit_form = Form(following, cycles), UnitForm(following, cycles)
         self.words = Words(following, self.states)
         self.values = all_values(following, self.states)
 
@@ -81,15 +84,25 @@ class Page:
         return Template(read("page.html")).substitute(
             title=html.escape(self.title), description=self.lead(), links=self.links,
             style=read("page.css") + picture_style(), script=read("page.js"), picture=self.picture(),
+            pieces=pieces(self.form), held=units(self.unit_form), held_by_units=HELD,
             labels=self.labels(), heads=self.heads(), corner=self.corner(),
             legends="".join(map(legend_of, self.form.legends)),
             count=len(steps), banks=bank_cells(), **{part: table_of(part) for part in HEADS},
             values=tables_of_values(self.values[0]),
-            reservations=reservations(rows_of(following, self.account), bool(self.account)),
+            above=self.tables() if self.account else "", below="" if self.account else self.tables(),
             rows="".join(row_of(n, step, self.words.told(n)) for n, step in enumerate(steps)),
             ending=html.escape(self.ending()), data=json.dumps(self.data(steps)).replace("<", "\\u003c"),
             counted=f"{len(steps)} events, {len(following.rows) - 1} reservations",
         )
+
+    def tables(self):
+        """The table of the reservations, and with minor cycles that of the totals before it."""
+        found = card("reservations", "The reservations",
+                     reservations(rows_of(self.following, self.account), bool(self.account)))
+        if not self.account:
+            return found
+        it = Totals(self.account.clock, self.following.log.text)
+        return card("totals", "Minor cycles", totals([it], [html.escape(self.title)])) + found
 
     def lead(self):
         """What the session shows, as sentences."""
@@ -98,8 +111,16 @@ class Page:
     def data(self, steps):
         """What the script reads."""
         form, values = self.form, changes(self.values[0], {})
-        columns = {"left": form.left, "column": form.column, "columns": form.column_of}
-        return {"steps": steps, "values": values, **columns}
+        columns = {"left": form.left, "column": form.column, "columns": form.column_of, "width": form.width}
+        below = {"head": self.head_height(), "below": list(self.below())}
+        return {"steps": steps, "values": values, "boot": Panel(self.words.judge(0)).parts(), **columns, **below,
+                "cycles": self.account and self.account.cycles}
+
+    def below(self):
+        """For each number of events how far down in the picture the rows begin that aren't issued by these."""
+        issued = {n for (row, n), mark in self.following.marks.items() if row and mark == LETTER["issue"]}
+        for n in range(self.following.columns + 1):
+            yield self.form.line_of(sum(event < n for event in issued)) + HEAD_MARGIN
 
     def ending(self):
         """The lines at the end: the dump, or that there is none."""
@@ -121,6 +142,8 @@ class Page:
         for row in form.labels:
             form.add_label(root, row)
             form.add_row(root, row)
+        add_veil(root, {"class": "below"})
+        add_veil(root, {"id": "veil"})
         return ET.tostring(root, encoding="unicode")
 
     def labels(self):
@@ -128,6 +151,7 @@ class Page:
         root = picture_of(self.form.left, self.form.height)
         for row in self.form.labels:
             self.form.add_label(root, row)
+        add_veil(root, {"class": "below"})
         return ET.tostring(root, encoding="unicode")
 
     def heads(self):
@@ -164,6 +188,11 @@ def add_cursor(root, form, more):
     """Adds the cursor of a drawing to a picture. The script puts it at a column."""
     size = {"class": "cursor", "y": "3", "width": str(form.column), "height": str(form.height - 4), "rx": "4"}
     ET.SubElement(root, f"{{{SVG}}}rect", {**more, **size})
+
+
+def add_veil(root, more):
+    """Adds what the script covers a part of a picture with, while its answers are hidden."""
+    ET.SubElement(root, f"{{{SVG}}}rect", {**more, "width": "0", "height": "0", "fill": "white"})
 
 
 def marked_up(text):

@@ -3,9 +3,44 @@
 import html
 
 from cdc6600.timing.reservations import BY_CYCLE, BY_EVENT, HEADS
+from cdc6600.timing.waits import CAUSES
 
 from .instructions import NAMES
 from .telling import sentence
+
+# The rows of totals, and the heads of their waits.
+COUNTS = {
+    "Minor cycles": "cycles", "Instructions": "issued", "Instructions a minor cycle": "rate",
+    "Minor cycles without the first exchange": "running",
+    "Instructions a minor cycle without the first exchange": "running_rate",
+}
+WAITS = ("Waits of the issuing position", "Waits of the reservations")
+
+
+def totals(sessions, names):
+    """The table of the totals of sessions, with a column for each."""
+    rows = [(name, [getattr(it, field) for it in sessions]) for name, field in COUNTS.items()]
+    for at, head in enumerate(WAITS):
+        waits = [it.waits[at] for it in sessions]
+        rows.append((head, [it.total() for it in waits]))
+        rows += [(f"· {CAUSES[code]}", [it[code] for it in waits]) for code in CAUSES if any(it[code] for it in waits)]
+    heads = "".join(f'<th scope="col">{name}</th>' for name in ["What", *names])
+    body = "".join(f'<tr><th scope="row">{html.escape(name)}</th>{cells(values)}</tr>\n' for name, values in rows)
+    return (
+        f'<table class="compared">\n<thead><tr>{heads}</tr></thead>\n<tbody>\n{body}</tbody></table>\n'
+        '<p class="count">The cycles are those of the file of times. Nothing is said of a real machine.</p>\n'
+    )
+
+
+def cells(values):
+    """The cells of a row."""
+    return "".join(f"<td>{html.escape(str(value))}</td>" for value in values)
+
+
+def card(name, title, text):
+    """A part of a page with a title, which isn't shown while answers are hidden."""
+    head = f'<h2 id="title-{name}">{title}</h2>'
+    return f'<section class="card answers" aria-labelledby="title-{name}">\n{head}\n{text}</section>\n'
 
 
 def reservations(found, is_timed, name=""):
@@ -23,5 +58,4 @@ def reservations(found, is_timed, name=""):
 def reservation(row):
     """The row of a reservation, whose unit has its name."""
     number, text, unit, *others = row.cells
-    cells = "".join(f"<td>{html.escape(cell)}</td>" for cell in (text, NAMES[unit], *others))
-    return f'<tr><th scope="row">{number}</th>{cells}</tr>\n'
+    return f'<tr><th scope="row">{number}</th>{cells([text, NAMES[unit], *others])}</tr>\n'

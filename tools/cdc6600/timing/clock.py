@@ -68,11 +68,12 @@ class Part:
 
 class Clock:
     """Counts minor cycles while events are made. `cause` is called for each part that is ready and waits when time goes
-    on, with the cycles of the wait; it says what the part waits for."""
+    on, with the cycles of the wait; it says what the part waits for. `first` is the cycle of the first issue."""
 
     def __init__(self, times, cause=no_cause):
         self.times, self.cause, self.now = times, cause, 0
         self.issuing, self.parts, self.pending, self.banks = Part(0, "issue", 0), [], [], {}
+        self.first = None
 
     def advance(self, cycle):
         """Goes on to a cycle, unless it is over."""
@@ -87,6 +88,7 @@ class Clock:
     def issue(self, text):
         """An instruction is issued."""
         self.advance(self.issuing.ready)
+        self.first = self.now if self.first is None else self.first
         self.issuing.then("issue", self.now, self.times.issue(text))
 
     def reserve(self, number, unit, text, is_taken, address):

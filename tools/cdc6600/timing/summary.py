@@ -1,11 +1,11 @@
 """What is printed of a schedule and of an exploration."""
 
 import sys
-from collections import Counter
 
 from cdc6600.drawing.following import Fault
 from cdc6600.drawing.telling import plural
 
+from .totals import Totals
 from .waits import CAUSES
 
 WIDTH = 34
@@ -19,19 +19,15 @@ def rows(work, waits):
 
 def summary(schedule, clock):
     """The summary of a schedule that was made, with the clock of its session."""
-    issued = schedule.issued
-    total = clock.issuing.ended
-    rate = f"{issued / total:.3f}" if total else "none"
-    waits, work, of_parts = Counter(), sum(part.work for part in clock.parts), 0
-    for part in clock.parts:
-        waits.update(part.waits)
-        of_parts += part.ended - part.begun
-    heads = [
-        f"policy {schedule.policy}: {issued} instructions in {total} minor cycles, {rate} instructions a cycle",
-        f"the issuing position, {total} cycles:",
+    it, of_parts = Totals(clock, schedule.log.text), sum(part.ended - part.begun for part in clock.parts)
+    lines = [
+        f"policy {schedule.policy}: {it.issued} instructions in {it.cycles} minor cycles, "
+        f"{it.rate} instructions a cycle",
+        f"without the first exchange: {it.running} minor cycles, {it.running_rate} instructions a cycle",
+        f"the issuing position, {it.cycles} cycles:", *rows(clock.issuing.work, it.waits[0]),
         f"the reservations, {len(clock.parts)} with {of_parts} cycles in all:",
+        *rows(sum(part.work for part in clock.parts), it.waits[1]),
     ]
-    lines = [*heads[:2], *rows(clock.issuing.work, clock.issuing.waits), heads[2], *rows(work, waits)]
     return "".join(f"{line}\n" for line in lines)
 
 
