@@ -262,6 +262,7 @@ function begin() {
   byId("hiding").addEventListener("change", hide);
   if (session.cycles) {
     byId("cycles").hidden = false;
+    document.body.classList.add("timed");
     byId("cycle-back").addEventListener("click", cycleMoves.ArrowLeft);
     byId("cycle-on").addEventListener("click", cycleMoves.ArrowRight);
   }
