@@ -46,6 +46,8 @@ COUNTED = [0, 0, 0, 2, 4, 4, 4, 4, 7, 7, 7, 10, 10, 10, 14, 14, 14, 15]
 # Where its rows begin that aren't issued by so many events. Four are issued, by the events 3, 4, 5 and 17.
 BELOW = [*[72] * 3, 94, 116, *[138] * 12, 160, 160]
 TOTALS = [("Minor cycles", "15"), ("Instructions", "4"), ("Instructions a minor cycle", "0.267")]
+# What a page says of its numbers.
+OCTAL = "Addresses, packages, words, the values of registers and the numbers in instructions are octal"
 # What each row has in its cycles.
 MARKS = {
     "machine": {0: "QX", 4: "E7", 15: "D"}, "1": {0: "I", 4: "R", 7: "FS"}, "2": {2: "I", 7: "R", 10: "FS"},
@@ -129,6 +131,7 @@ def faults_of_page(words):
     faults = [] if came == COUNTED else [f"the page has the cycles {came}, and should have {COUNTED}"]
     faults += [f"the page steps by the cycles {data['cycles']}"] * (data["cycles"] != COUNTED)
     faults += [f"the page hides the rows below {data['below']}"] * (data["below"] != BELOW)
+    faults += ["the page doesn't say which numbers are octal"] * (OCTAL not in page)
     faults += [f"the page has the order {order}"] * (order != ["totals", "reservations", "picture"])
     totals = re.findall('<tr><th scope="row">([^<]*)</th><td>([^<]*)</td></tr>', page)[: len(TOTALS)]
     return faults + [f"the page has the totals {totals}, and should have {TOTALS}"] * (totals != TOTALS)
@@ -261,8 +264,9 @@ def faults_of_units(folder):
     rows = {5: 22 * 6, 9: 22 * 10, 10: 22 * 11}
     wanted = [(rows[5], 30, "3"), (rows[5], 34, "4"), (rows[9], 26, "1"), (rows[10], 28, "2")]
     wanted = wanted, {rows[5]: 4 + 3, rows[9]: 3, rows[10]: 3}
+    said = ["the page of two schedules doesn't say which numbers are octal"] * (OCTAL not in page)
     held = [(marks, bars) for label, _, marks, bars in drawn if label.startswith("The units of")]
-    faults = [] if held == [wanted, wanted] else [f"the units have {held}, and should have {wanted} twice"]
+    faults = said if held == [wanted, wanted] else [f"the units have {held}, and should have {wanted} twice"]
     columns = [0, *range(26, 38)]
     return faults + [f"{label}: the columns are {numbers}" for label, numbers, *_ in drawn if numbers != columns]
 

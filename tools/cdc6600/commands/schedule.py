@@ -8,8 +8,9 @@ are made as `run --sequential` makes them. The policy says in which order events
   greedy          each part makes its next event as soon as the machine accepts it, whatever it takes
   program-order   each instruction is carried out to its end before the next one is issued
 
-With --summary the cycles, the instructions per cycle and the waits by their causes are printed instead. They are those
-of the file of times; nothing is said of a real machine. docs/use/tools.md explains them.
+With --summary the cycles, the instructions per cycle, with the first exchange and without it, and the waits by their
+causes are printed instead. They are those of the file of times; nothing is said of a real machine. docs/use/tools.md
+explains them.
 
 The status is 0, or 1 for bad input. CDC6600 may name the program to ask.
 """
