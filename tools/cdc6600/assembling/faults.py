@@ -30,7 +30,12 @@ class Faults:
         self.found.add((number, wrong.column, str(wrong)))
 
     @property
+    def placed(self):
+        """Where each fault is, and what is wrong there, in the order of the source."""
+        return [(f"{self.name}:{number}:{column}", what) for number, column, what in sorted(self.found)]
+
+    @property
     def lines(self):
         """A line for each fault, in the order of the source, and a last one if there are too many."""
-        lines = [f"{self.name}:{number}:{column}: {what}" for number, column, what in sorted(self.found)]
+        lines = [f"{where}: {what}" for where, what in self.placed]
         return lines[:MOST] + [f"{self.name}: {len(lines) - MOST} more faults"] * (len(lines) > MOST)

@@ -3,16 +3,24 @@
 import re
 from dataclasses import dataclass
 
-from .faults import Wrong
+from .faults import Wrong, quoted
 
-COMMENT, TAB = "*", "\t"
-# A label from column one, blanks, and what is said up to two blanks or the end of the line.
-FORM = re.compile(r"(?P<label>[^ ]*) *(?P<statement>(?:[^ ]+ )*[^ ]+)?(?: |$)")
+COMMENT = "*"
+# A text in display code. Its blanks and commas are characters like others.
+TEXT = r"[HL]\*[^*]*\*"
+# A label from column one, an operation and the gap after it; then operands up to two blanks, a tab or the line's end.
+FORM = re.compile(r"([^ \t]*)[ \t]*([^ \t]*)([ \t]*)")
+OPERANDS = re.compile(rf"(?: ?{TEXT}| ?[^ \t])*")
+# The operations without operands. Two blanks or a tab after one begin a comment.
+ALONE = ("NO", "PS")
+# Those whose operands have blanks between them. A tab there is a blank.
+SETTERS, TAB = ("SET", "SHOW"), re.compile(r"\t(?=[^ \t])")
 
 
 @dataclass(frozen=True)
 class Line:
-    """A line of a source program: its number, its text, and its parts. A part that isn't there is empty."""
+    """A line of a source program: its number, its text, and its parts. A part that isn't there is empty. The columns
+    are those of the operation and of the operands, or those at which they would begin."""
 
     number: int
     text: str
@@ -20,11 +28,7 @@ class Line:
     operation: str = ""
     operands: str = ""
     column: int = 1
-
-    @property
-    def operands_column(self):
-        """The column of the operands, or where they would begin."""
-        return self.column + len(self.operation) + 1
+    operands_column: int = 1
 
     @property
     def statement(self):
@@ -34,22 +38,45 @@ class Line:
     @property
     def fields(self):
         """The fields of the operands, between blanks, each with its column."""
-        return [(found[0], self.operands_column + found.start()) for found in re.finditer("[^ ]+", self.operands)]
+        return self.parted(" ")
+
+    @property
+    def values(self):
+        """The values of the operands, between commas, each with its column."""
+        return self.parted(",")
+
+    def parted(self, mark):
+        """The parts of the operands between marks that are in no text, each with its column."""
+        marks = [it.start() for it in re.finditer(f"{TEXT}|{mark}", self.operands) if it[0] == mark]
+        begins = [0, *(at + 1 for at in marks)] if self.operands else []
+        return [(self.operands[at:end], self.operands_column + at) for at, end in zip(begins, [*marks, None])]
+
+    def check_letters(self):
+        """Raises Wrong for a part with small letters. Those of a byte that is no text, as `\\xff`, don't count."""
+        parts = (self.label, 1), (self.operation, self.column), (self.operands, self.operands_column)
+        for part, column in parts:
+            if re.search("[a-z]", re.sub(r"\\x..", "", part)):
+                raise Wrong(column, f"{quoted(part)} has small letters: expected capitals")
 
 
 def read_line(number, text):
     """Reads the line of this number.
 
-    Raises Wrong for a tab in it that isn't in a comment."""
+    Raises Wrong for operands of an operation that has none."""
     if text.startswith(COMMENT):
         return Line(number, text)
     found = FORM.match(text)
-    tab = text.find(TAB, 0, found.end())
-    if tab >= 0:
-        raise Wrong(tab + 1, "a tab, where blanks are expected")
-    operation, _, operands = (found["statement"] or "").partition(" ")
-    column = found.start("statement") + 1 if operation else len(text) + 1
-    return Line(number, text, found["label"], operation, operands, column)
+    label, operation, gap = found.groups()
+    column = found.start(2) + 1 if operation else len(text) + 1
+    operands_column = column + len(operation) + max(len(gap), 1)
+    rest = text[found.end() :]
+    operands = OPERANDS.match(TAB.sub(" ", rest) if operation in SETTERS else rest)[0]
+    if operation in ALONE:
+        if gap == " " and operands:
+            raise Wrong(operands_column, f"{quoted(operands)} doesn't fit {operation}: expected no operands, and two "
+                        "blanks before a comment")
+        operands = ""
+    return Line(number, text, label, operation, operands, column, operands_column)
 
 
 def lines_of(text):

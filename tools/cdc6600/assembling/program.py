@@ -5,8 +5,10 @@ from functools import partial
 
 from cdc6600.limits import MOST_WORDS
 
+from .display_code import is_text, words_of
 from .faults import Faults, Wrong, quoted
-from .lines import Line, lines_of, read_line
+from .lines import SETTERS, Line, lines_of, read_line
+from .short_forms import OF_OTHERS
 from .texts import written
 from .values import NAME, REGISTER, WORD_BITS, fitted, value_of, within
 
@@ -14,7 +16,10 @@ PARCELS, PASS = 4, 0o46000
 # After these the next instruction begins a word.
 UNCONDITIONAL = ("JP", "RJ", "PS")
 # The lines about the package, the memory and what is shown. They take no label and no word.
-SETTINGS, SETTERS = ("RA", "FL", "EM", "CORE", "PACKAGE"), ("SET", "SHOW")
+SETTINGS = ("RA", "FL", "EM", "CORE", "PACKAGE")
+END, START = "END", "START"
+# The operations that stand for others.
+SHORT = {short.split(" ")[0]: text.split(" ")[0] for text, short in OF_OTHERS}
 ABOVE = " above this line"
 
 
@@ -59,13 +64,13 @@ class Coded:
 
 @dataclass
 class Given:
-    """A word of DATA: its address, its line, and the text of its value with its column."""
+    """A word of DATA: its address, its line, the text of its value with its column, and the word if it is known."""
 
     address: int
     line: Line
     text: str
     column: int
-    word: int = 0
+    word: int | None = None
 
     @property
     def number(self):
@@ -73,7 +78,9 @@ class Given:
         return self.line.number
 
     def resolve(self, names, faults):
-        """Gives it its value."""
+        """Gives it its value, if it hasn't one."""
+        if self.word is not None:
+            return
         try:
             self.word = fitted(value_of(self.text, self.column, names), WORD_BITS, self.column)
         except Wrong as wrong:
@@ -93,6 +100,8 @@ class Program:
         self.names, self.defined, self.words, self.settings = {}, {}, {}, []
         # The next address, the highest one so far, the word that may take more instructions, and where lines begin.
         self.address, self.top, self.open, self.begins = 0, 0, None, {}
+        # The number of the line with END.
+        self.end = 0
         for number, line in enumerate(self.texts, 1):
             self.guarded(number, partial(self.read, number, line))
         self.close()
@@ -109,13 +118,19 @@ class Program:
     def read(self, number, text):
         """Reads a line."""
         line = read_line(number, text)
-        if " " in line.operands and line.operation not in SETTERS:
-            raise Wrong(line.fields[0][1] + len(line.fields[0][0]), "a blank in the operands: expected none, and two "
-                        "before a comment")
+        if len(line.fields) > 1 and line.operation not in SETTERS:
+            raise Wrong(line.fields[1][1] - 1, "a blank in the operands: expected none, and two before a comment")
+        line.check_letters()
+        if self.end and (line.label or line.operation):
+            raise Wrong(1, f"END is in line {self.end}: expected nothing after it")
+        if line.operation == END:
+            self.finish(line)
+            return
         if line.operation == "EQU":
             self.equal(line)
             return
-        work = {"DATA": self.data, "BSS": self.reserve, "ORG": self.move}.get(line.operation)
+        works = {"DATA": self.data, "BSS": self.reserve, "ORG": self.move}
+        work = works.get(SHORT.get(line.operation, line.operation))
         is_setting = line.operation in (*SETTINGS, *SETTERS)
         if line.label and (is_setting or line.operation == "ORG"):
             raise Wrong(1, f"{line.operation} takes no label: expected a blank in column 1")
@@ -146,8 +161,17 @@ class Program:
     def known(self, line):
         """The value of a line's operands, by the names that are defined above it."""
         if not line.operands:
-            raise Wrong(line.operands_column, f"no operand after {line.operation} and one blank: expected a value")
+            raise Wrong(line.operands_column, f"no operand after {line.operation}: expected a value")
         return value_of(line.operands, line.operands_column, self.names, ABOVE)
+
+    def finish(self, line):
+        """Ends the source."""
+        if line.label:
+            raise Wrong(1, "END takes no label: expected a blank in column 1")
+        if line.operands not in ("", START):
+            raise Wrong(line.operands_column, f"{quoted(line.operands)} doesn't fit END: expected {START} or no "
+                        "operands")
+        self.end = line.number
 
     def equal(self, line):
         """Defines a name that isn't a label."""
@@ -168,13 +192,13 @@ class Program:
 
     def data(self, line):
         """Places the words of DATA."""
-        column = line.operands_column
         if not line.operands:
-            raise Wrong(column, "no operands after DATA and one blank: expected values with commas between them")
-        for text in line.operands.split(","):
-            self.place(line, Given(self.address, line, text, column))
-            self.address += 1
-            column += len(text) + 1
+            raise Wrong(line.operands_column, f"no operands after {line.operation}: expected values with commas "
+                        "between them")
+        for text, column in line.values:
+            for word in words_of(text, column) if is_text(text) else [None]:
+                self.place(line, Given(self.address, line, text, column, word))
+                self.address += 1
 
     def instruct(self, line, it):
         """Places an instruction: in the word before if it has room, else in the next one."""

@@ -5,11 +5,10 @@ from functools import partial
 from cdc6600.limits import LEAST_WORDS, MOST_SHOWS, MOST_WORDS, PACKAGE_WORDS
 
 from .faults import Wrong, quoted
-from .lines import Line
-from .program import SETTERS
+from .lines import SETTERS, Line
+from .program import START
 from .values import INDEX_BITS, REGISTER, WORD_BITS, fitted, octal, value_of, within
 
-START = "START"
 DEFAULTS = {"RA": 0o100, "EM": 0o10000, "PACKAGE": 0o40}
 # Where the package has its numbers: the word and its bit 0 for those of the table's first part, by docs/use/formats.md.
 MIDDLE, HEAD = 36, {"P": 0, "RA": 1, "FL": 2, "EM": 3}
@@ -47,8 +46,8 @@ class Settings:
         """The fields of a line's operands, so many."""
         fields = line.fields
         if len(fields) < least:
-            column = line.column + len(line.statement)
-            raise Wrong(column, f"too few operands after {line.operation} and one blank: {wanted}")
+            column = line.operands_column + len(line.operands)
+            raise Wrong(column, f"too few operands after {line.operation}: {wanted}")
         if len(fields) > most:
             raise Wrong(fields[most][1], f"{quoted(fields[most][0])} is too much: {wanted}")
         return fields

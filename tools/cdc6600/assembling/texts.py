@@ -1,21 +1,27 @@
-"""The texts of instructions in a source program: those of docs/use/instructions.md, with values where K or jk is."""
+"""The texts of instructions in a source program: those of docs/use/instructions.md and their short forms, with values
+where K or jk is."""
 
 import re
-from dataclasses import dataclass
+from dataclasses import dataclass, replace
 from functools import lru_cache
 
 from cdc6600.shared.instructions import FIELDS, ROWS, Instruction, Row
 
 from .faults import Wrong, quoted
+from .short_forms import each_short_form
 from .values import INDEX_BITS, fitted, value_of, within
 
 # The operations that aren't instructions.
-OTHERS = "DATA, BSS, EQU, ORG, RA, FL, EM, CORE, PACKAGE, SET or SHOW"
+OTHERS = "DATA, CON, BSS, BSSZ, EQU, ORG, RA, FL, EM, CORE, PACKAGE, SET, SHOW or END"
 # What a value is written for, and the largest number of jk.
 VALUES, COUNT, MOST_COUNT = ("K", "jk"), "jk", 0o77
+# The value of a short form. It may have a plus in front, doesn't begin with a register, and has no comma.
+SHORT_VALUE = "(?![+-]?[ABX][0-7](?![A-Z0-9]))[^,]+"
+# The operations that the program, too, calls floating point.
+FLOATING_POINT = re.compile("[FDRNZUP]X[0-7]")
 
 
-def form_of(text):
+def form_of(text, value=".+"):
     """The form of a part of a row's text: each field has a group of its name. The plus before K belongs to the value,
     which may have a minus instead."""
     form, at = "", 0
@@ -25,30 +31,36 @@ def form_of(text):
         is_value = found[0] in VALUES
         is_signed = is_value and before.endswith("+")
         form += re.escape(before.removesuffix("+") if is_signed else before)
-        digits = "[+-].+" if is_signed else ".+" if is_value else "[0-7]"
+        digits = "[+-].+" if is_signed else value if is_value else "[0-7]"
         form += f"(?P<{found[0]}>{digits})"
     return re.compile(form + re.escape(text[at:]))
 
 
 @dataclass(frozen=True)
 class Form:
-    """A row of the table as it is looked for: the forms of its operation and of its operands."""
+    """A text as it is looked for: the forms of its operation and of its operands. It has the row of the table whose
+    text it is or, if it is a short form, the text that it stands for."""
 
-    row: Row
     operation: re.Pattern
     operands: re.Pattern
     shown: str
+    row: Row = None
+    stands_for: str = ""
 
     @property
-    def has_value(self):
-        """Whether it has a value, so that it fits operands of other rows too."""
-        return any(name in self.operands.groupindex for name in VALUES)
+    def rank(self):
+        """When it is tried, the lowest rank first: a short form late, and a form with a value, which fits operands of
+        others too, behind those without."""
+        return bool(self.stands_for), any(name in self.operands.groupindex for name in VALUES)
 
 
 def read_forms():
-    """The forms of all rows."""
+    """The forms of all rows, and the short forms."""
     parts = [(row, *row.text.partition(" ")) for row in ROWS.values()]
-    return [Form(row, form_of(operation), form_of(rest), rest) for row, operation, _, rest in parts]
+    forms = [Form(form_of(operation), form_of(rest), rest, row) for row, operation, _, rest in parts]
+    short = [(text, *form.partition(" ")) for form, text in each_short_form()]
+    return forms + [Form(form_of(operation), form_of(rest, SHORT_VALUE), rest, stands_for=text)
+                    for text, operation, _, rest in short]
 
 
 FORMS = read_forms()
@@ -102,6 +114,13 @@ def fitting(form, operation, operands, column):
     return Written(form.row, digits, name, value, at)
 
 
+def rewritten(line, text, fields):
+    """A line of a short form with the text that it stands for. If there is a value, it ends the operands of both."""
+    operation, operands = FIELDS.sub(lambda name: fields[name[0]].removeprefix("+"), text).split(" ")
+    at = line.operands_column + len(line.operands) - len(operands)
+    return replace(line, operation=operation, operands=operands, operands_column=at)
+
+
 @lru_cache(maxsize=None)
 def forms_of(operation):
     """The forms that an operation may have, in the order of the table, each with what is found of it."""
@@ -110,17 +129,21 @@ def forms_of(operation):
 
 
 def written(line):
-    """The instruction of a line. A form that has a value fits operands of other forms too, so it comes last.
+    """The instruction of a line.
 
     Raises Wrong where it has none."""
     found = forms_of(line.operation)
     if not found:
+        if FLOATING_POINT.fullmatch(line.operation):
+            raise Wrong(line.column, f"{quoted(line.statement)} is floating point, which isn't implemented")
         raise Wrong(line.column, f"{quoted(line.operation)} is no operation: expected an instruction or {OTHERS}")
-    for form, operation in sorted(found, key=lambda it: it[0].has_value):
+    for form, operation in sorted(found, key=lambda it: it[0].rank):
         operands = form.operands.fullmatch(line.operands)
+        if operands and form.stands_for:
+            return written(rewritten(line, form.stands_for, {**operation.groupdict(), **operands.groupdict()}))
         if operands:
             return fitting(form, operation, operands, line.operands_column)
     expectation = expected([form for form, _ in found])
     if not line.operands:
-        raise Wrong(line.operands_column, f"no operands after {line.operation} and one blank: {expectation}")
+        raise Wrong(line.operands_column, f"no operands after {line.operation}: {expectation}")
     raise Wrong(line.operands_column, f"{quoted(line.operands)} doesn't fit {line.operation}: {expectation}")

@@ -4,7 +4,9 @@
   assembled and then listed by the program it has the same text, and the words of --listing are those of the program.
 - The sources of decks/pages/bad-sources.md have the faults that stand beside them, and no deck.
 - The programs of decks/source/ print the dumps beside them, and --listing shows their lines and words.
-- Passes, words that are begun anew, labels, values, the package and the memory give the lines of decks that are below.
+- Passes, words that are begun anew, labels, values, texts in display code, the package and the memory give the lines of
+  decks that are below.
+- The short forms are those of docs/use/instructions.md, and give the deck of the texts for which they stand.
 - Further errors than the first 20 are counted, a file that can't be read gives a line, and a reader that leaves or a
   full disk ends the tool as it should.
 
@@ -23,8 +25,9 @@ from concurrent.futures import ThreadPoolExecutor
 from functools import partial
 from pathlib import Path
 
+from cdc6600.assembling.short_forms import OF_OTHERS, TABLE, each_short_form
 from cdc6600.shared.decks import FOLDER, PAGES, cells_of, decks
-from cdc6600.shared.instructions import FIELDS, ROWS
+from cdc6600.shared.instructions import FIELDS, PAGE, ROWS
 from cdc6600.shared.program import ROOT, Program, Ran, tell
 from cdc6600.shared.waiting import faults_found
 
@@ -77,6 +80,31 @@ PLACED = (
     (" DATA 77777777777777777777", "code NO|word 77777777777777777777"),
     (" NO\r\n NO\r", "code NO; NO; NO"),
     (" NO  \u00fc\tc", "code NO; NO"),
+    # Blanks and tabs before the operation, the operands and the comment.
+    ("A\t SX1 \t B0+5\tfive\n   SX2     B0+A   \n\tNO\ta pass\n PS   stops", "code NO|code SX1 B0+5; SX2 B0+1|"
+     "code NO; PS"),
+    # Texts in display code, with blanks and commas in them.
+    (" DATA H*ABCDEFGHIJKLMNOPQRSTUVWXYZ0123456789+-/()$= ,.*", "code NO|word 01020304050607101112|"
+     "word 13141516172021222324|word 25262730313233343536|word 37404142434445465051|word 52535455565755555555"),
+    (" CON  -1,L*A,  B*,H*, *  a comment, and *", "code NO|word 77777777777777777776|word 01565555020000000000|"
+     "word 56555555555555555555"),
+    (" DATA L*ABCDEFGHIJ*\n NO", "code NO|word 01020304050607101112|code NO"),
+    # The end.
+    (" NO\n\tEND\tSTART\n\n* A comment", "code NO; NO"),
+    (" END", "code NO"),
+)
+# Short forms, each with the text for which it stands.
+SHORT = (
+    ("SX1 12", "SX1 B0+12"), ("SX2 -1", "SX2 B0-1"), ("SX3 +L", "SX3 B0+L"), ("SB5 L-2", "SB5 B0+L-2"),
+    ("SA5 7D+L", "SA5 B0+7D+L"), ("SX1 A2", "SX1 A2+B0"), ("SB1 A3", "SB1 A3+B0"), ("SA1 A4", "SA1 A4+B0"),
+    ("SX1 B2", "SX1 B2+B0"), ("SB0 B0", "SB0 B0+B0"), ("SA7 B1", "SA7 B1+B0"), ("SX1 X1", "SX1 X1+B0"),
+    ("SB1 X7", "SB1 X7+B0"), ("SA3 X4", "SA3 X4+B0"), ("SX1 -B2", "SX1 B0-B2"), ("SB3 -B3", "SB3 B0-B3"),
+    ("SA6 -B7", "SA6 B0-B7"), ("JP L", "JP B0+L"), ("JP -1", "JP B0-1"), ("EQ L", "EQ B0,B0,L"),
+    ("ZR L+1", "EQ B0,B0,L+1"), ("EQ B1,L", "EQ B1,B0,L"), ("ZR B2,L", "EQ B2,B0,L"), ("NE B3,L", "NE B3,B0,L"),
+    ("NZ B4,5", "NE B4,B0,5"), ("GE B5,L", "GE B5,B0,L"), ("PL B6,L", "GE B6,B0,L"), ("LT B7,L", "LT B7,B0,L"),
+    ("NG B1,L", "LT B1,B0,L"), ("MI B2,L", "LT B2,B0,L"), ("LE B1,B2,L", "GE B2,B1,L"), ("LE B3,L", "GE B0,B3,L"),
+    ("GT B4,B5,L-1", "LT B5,B4,L-1"), ("GT B6,L", "LT B0,B6,L"), ("MI X7,L", "NG X7,L"), ("BSSZ 3", "BSS 3"),
+    ("CON 5,L", "DATA 5,L"),
 )
 # A source and its deck.
 WHOLE = (
@@ -167,6 +195,24 @@ def bad_sources():
                 yield before + source.strip("`").replace("\\n", "\n").replace("\\t", "\t"), told.replace("`", "")
 
 
+def faults_of_short_forms():
+    """Compares the short forms with their page, and assembles each beside the text for which it stands."""
+    rows = [[cell.replace("`", "") for cell in cells] for cells in cells_of(PAGE, "Short forms in sources")[1:]]
+    faults = differing("the short forms of the page", [[text, ", ".join(forms)] for text, *forms in TABLE], rows)
+    forms = [form for form, _ in each_short_form()] + [form for _, form in OF_OTHERS]
+    for form in forms:
+        pattern = re.sub("V.*", "K", form)
+        pattern = FIELDS.sub(lambda name: ".+" if name[0] == "K" else "[0-7]", re.escape(pattern))
+        if not any(re.fullmatch(pattern, short) for short, _ in SHORT):
+            faults.append(f"no short form {form} is tried")
+    short, strict = (assembled("-", text="\n".join(["START PS", *(f" {pair[of]}" for pair in SHORT), "L PS"]).encode())
+                     for of in (0, 1))
+    faults += differing("the texts of short forms", (0, b""), (strict.status, strict.told))
+    faults += differing("the short forms", (0, b""), (short.status, short.told))
+    lines = itertools.zip_longest(strict.printed.splitlines(), short.printed.splitlines())
+    return faults + [fault for pair in lines for fault in differing("a line of short forms", *pair)]
+
+
 def faults_of_program(program, file):
     """Assembles a stored source and runs the deck, with and without threads; its listing has its lines and words."""
     source, deck = str(file.relative_to(ROOT)), assembled(file)
@@ -253,7 +299,7 @@ def works(program, folder):
     yield from (partial(faults_of_placed, *row) for row in PLACED)
     yield from (partial(faults_of_whole, program, *row) for row in WHOLE)
     yield from (partial(faults_of_call, *row) for row in calls(folder))
-    yield from (faults_of_listing, faults_of_many)
+    yield from (faults_of_listing, faults_of_many, faults_of_short_forms)
 
 
 def main():

@@ -14,8 +14,7 @@ import argparse
 import sys
 
 from cdc6600.assembling.output import deck_of, listing_of
-from cdc6600.assembling.program import Program
-from cdc6600.assembling.settings import Settings
+from cdc6600.assembling.sources import read_source
 from cdc6600.comparing.arguments import STANDARD_INPUT, bytes_of, standard_input
 from cdc6600.comparing.faults import ended
 
@@ -31,8 +30,7 @@ def work():
     given = arguments()
     is_standard = given.source == STANDARD_INPUT
     text = standard_input() if is_standard else bytes_of(given.source)
-    program = Program("standard input" if is_standard else given.source, text.decode("utf-8", "backslashreplace"))
-    settings = Settings(program)
+    program, settings = read_source("standard input" if is_standard else given.source, text)
     if program.faults.lines:
         print("\n".join(program.faults.lines), file=sys.stderr)
         return 1

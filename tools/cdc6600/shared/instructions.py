@@ -56,7 +56,7 @@ def read_tables():
     rows, increments, addends = {}, {}, {}
     for cells in cells_of(PAGE):
         text = re.fullmatch(r"`([^`]*)`", cells[1])
-        if not text:
+        if not (text and cells[0][0].isdigit()):
             continue
         is_long = cells[2].startswith("30")
         if SEVERAL in cells[0]:

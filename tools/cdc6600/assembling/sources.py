@@ -1,0 +1,36 @@
+"""Source programs in files, and the decks that they stand for.
+
+The assembler reads a page when it is imported, which takes longer than many a run. So only a source program imports it.
+"""
+
+ENDING = ".source"
+
+
+class Refused(Exception):
+    """A source program with a fault: where its first fault is, and what is wrong there."""
+
+    def __str__(self):
+        return ": ".join(self.args)
+
+
+def read_source(name, content):
+    """The program and the settings of a source program, by its name and its bytes."""
+    from .program import Program
+    from .settings import Settings
+
+    program = Program(name, content.decode("utf-8", "backslashreplace"))
+    return program, Settings(program)
+
+
+def as_deck(file, content):
+    """What a file has, as a deck. If its name says that it is a source program, that is assembled.
+
+    Raises Refused if the source program has a fault."""
+    if not str(file).endswith(ENDING):
+        return content
+    from .output import deck_of
+
+    program, settings = read_source(file, content)
+    for fault in program.faults.placed:
+        raise Refused(*fault)
+    return "".join(f"{line}\n" for line in deck_of(program, settings)).encode()
