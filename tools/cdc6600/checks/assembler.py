@@ -1,4 +1,4 @@
-"""Tries tools/assemble.
+"""Tries tools/assemble, and the other tools with source programs.
 
 - Each instruction of docs/use/instructions.md, with several registers and values, and each of the listings of decks/:
   assembled and then listed by the program it has the same text, and the words of --listing are those of the program.
@@ -7,6 +7,7 @@
 - Passes, words that are begun anew, labels, values, texts in display code, the package and the memory give the lines of
   decks that are below.
 - The short forms are those of docs/use/instructions.md, and give the deck of the texts for which they stand.
+- Each tool that takes a deck does with a source program what it does with its deck, and tells its first fault.
 - Further errors than the first 20 are counted, a file that can't be read gives a line, and a reader that leaves or a
   full disk ends the tool as it should.
 
@@ -106,6 +107,15 @@ SHORT = (
     ("GT B4,B5,L-1", "LT B5,B4,L-1"), ("GT B6,L", "LT B0,B6,L"), ("MI X7,L", "NG X7,L"), ("BSSZ 3", "BSS 3"),
     ("CON 5,L", "DATA 5,L"),
 )
+# A source program for the other tools, and one with two faults.
+GOOD, FAULTY = "START   SX1 5\n  SX2 X1\n  PS\n", "START SX1 5\n  FX2 X1+X1\n BAD\n"
+FAULT = "2:3: 'FX2 X1+X1' is floating point, which isn't implemented"
+# What each tool is called with; FOLDER stands for a folder of its own, and PROGRAM for the program.
+CALLS = {
+    "schedule": ["--summary"], "explore": [], "operate": ["--plain"], "trace": [], "compare": ["PROGRAM replay"],
+    "gallery": ["FOLDER/pages"], "run-jobs": ["FOLDER/jobs"], "timeline": [], "beside": [],
+}
+TYPED = b"next\nnext\nnext\nquit\nquit\n"
 # A source and its deck.
 WHOLE = (
     ("START PS", "core 65|at 41|word 00000100000000000000|word 00000001000000000000|word 00010000000000000000|at 100|"
@@ -213,6 +223,32 @@ def faults_of_short_forms():
     return faults + [fault for pair in lines for fault in differing("a line of short forms", *pair)]
 
 
+def called(tool, words, file):
+    """Calls a tool with a file; how it ends, with the name of a deck where it names the file."""
+    with subprocess.Popen([f"tools/{tool}", *words, file], **PIPED, stdin=subprocess.PIPE) as process:
+        printed, told = process.communicate(TYPED)
+    return Ran(process.returncode, printed.replace(b".source", b".deck"), told.replace(b".source", b".deck"))
+
+
+def faults_of_tool(program, folder, tool, words):
+    """Calls a tool with a source program, with its deck, and with a source program that has a fault."""
+    sources = folder / tool
+    sources.mkdir()
+    good, deck, bad = (sources / name for name in ("it.source", "it.deck", "bad.source"))
+    good.write_text(GOOD, encoding="ascii")
+    bad.write_text(FAULTY, encoding="ascii")
+    deck.write_bytes(assembled(good).printed)
+    ran = []
+    for at, file in enumerate((good, deck, bad)):
+        places = {"FOLDER": f"{sources}/{at}", "PROGRAM": program.path}
+        (sources / str(at)).mkdir()
+        ran.append(called(tool, [re.sub("FOLDER|PROGRAM", lambda it: places[it[0]], word) for word in words], file))
+    faults = differing(f"tools/{tool} with a source program", ran[1], ran[0])
+    told = f"{bad.with_suffix('.deck')}:{FAULT}".encode()
+    is_told = ran[2].told.count(b"\n") == 1 and ran[2].told.rstrip().endswith(told)
+    return faults + ([] if is_told and ran[2].status in (1, 2) else [f"tools/{tool} with a faulty source: {ran[2]}"])
+
+
 def faults_of_program(program, file):
     """Assembles a stored source and runs the deck, with and without threads; its listing has its lines and words."""
     source, deck = str(file.relative_to(ROOT)), assembled(file)
@@ -299,6 +335,7 @@ def works(program, folder):
     yield from (partial(faults_of_placed, *row) for row in PLACED)
     yield from (partial(faults_of_whole, program, *row) for row in WHOLE)
     yield from (partial(faults_of_call, *row) for row in calls(folder))
+    yield from (partial(faults_of_tool, program, folder, *row) for row in CALLS.items())
     yield from (faults_of_listing, faults_of_many, faults_of_short_forms)
 
 

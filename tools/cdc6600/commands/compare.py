@@ -19,7 +19,7 @@ import sys
 import tempfile
 from pathlib import Path
 
-from cdc6600.comparing.arguments import MORE, SECONDS, bytes_of, count, seconds, slope
+from cdc6600.comparing.arguments import MORE, SECONDS, count, deck_of, seconds, slope
 from cdc6600.comparing.emulator import Emulator
 from cdc6600.comparing.faults import ended
 from cdc6600.comparing.finding import Comparison, Replayed
@@ -35,14 +35,14 @@ def arguments():
     parser.add_argument("--more", metavar="S", type=slope, default=MORE, help="how much longer for each million steps")
     parser.add_argument("--save", metavar="FILE", help="write the deck to FILE as COMMAND is given it")
     parser.add_argument("command", metavar="COMMAND", help="the emulator's command, its words in one argument")
-    parser.add_argument("deck", metavar="DECK", help="a file with a deck")
+    parser.add_argument("deck", metavar="DECK", help="a file with a deck, or a source program NAME.source")
     parser.add_argument("log", metavar="LOG", nargs="?", help="the log to go through")
     return parser.parse_args()
 
 
 def compared(given, folder):
     """The comparison that the arguments ask for."""
-    proved, text = Proved(), bytes_of(given.deck)
+    proved, text = Proved(), deck_of(given.deck)
     emulator, deck = Emulator(given.command, given.seconds, given.more), Given(proved, given.deck, text)
     log = proved.log(text, given.deck) if given.log is None else given.log
     return Comparison(Replayed(proved, deck, log, Path(given.save or f"{folder}/deck")), emulator)

@@ -48,7 +48,8 @@ def arguments():
                         help=f"give up at more than N states, {STATES} by default")
     parser.add_argument("--sessions", metavar="N", type=count, default=SESSIONS,
                         help=f"have the machine make at most N sessions, {SESSIONS} by default")
-    parser.add_argument("deck", metavar="DECK", help="a file with a deck; a schedule after it isn't read")
+    parser.add_argument("deck", metavar="DECK",
+                        help="a file with a deck, whose schedule isn't read, or a source program NAME.source")
     return parser.parse_args()
 
 

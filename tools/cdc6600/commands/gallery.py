@@ -24,7 +24,7 @@ def arguments():
     parser = argparse.ArgumentParser(description=__doc__, formatter_class=argparse.RawDescriptionHelpFormatter)
     parser.add_argument("folder", metavar="FOLDER", help="where the pages are written; it is made if it isn't there")
     parser.add_argument("files", metavar="SESSION", nargs="*", default=[],
-                        help="a session, or a deck to be scheduled")
+                        help="a session, or a deck or source program NAME.source to be scheduled")
     parser.add_argument("--times", metavar="FILE",
                         help="the file of times, tools/cdc6600/timing/thornton.times by default")
     return parser.parse_args()

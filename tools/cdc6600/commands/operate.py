@@ -24,7 +24,8 @@ def arguments():
     parser = argparse.ArgumentParser(description=__doc__, formatter_class=argparse.RawDescriptionHelpFormatter)
     parser.add_argument("--plain", action="store_true", help="write and read lines, and leave the terminal as it is")
     parser.add_argument("--save", metavar="FILE", help="where the session is written at the end")
-    parser.add_argument("deck", metavar="DECK", help="a deck, with or without a schedule after it")
+    parser.add_argument("deck", metavar="DECK",
+                        help="a deck, with or without a schedule after it, or a source program NAME.source")
     return parser.parse_args()
 
 

@@ -1,6 +1,6 @@
 """Runs decks, each as a job of its own, and keeps their results. docs/use/tools.md says how to run many at once.
 
-Of the deck NAME.deck, FOLDER gets
+Of the deck NAME.deck, or the source program NAME.source, FOLDER gets
 
     NAME.dump      what the run prints, if it came to its end
     NAME.told      what it writes to standard error, if that is anything
@@ -95,7 +95,7 @@ def arguments():
     parser.add_argument("--jobs", type=int, default=1, metavar="N", help="run N decks at once (default: 1)")
     parser.add_argument("--progress", action="store_true", help="show on standard error how many jobs have ended")
     parser.add_argument("folder", metavar="FOLDER", help="the folder of the results; it is made if it isn't there")
-    parser.add_argument("decks", metavar="DECK", nargs="+", help="a deck")
+    parser.add_argument("decks", metavar="DECK", nargs="+", help="a deck, or a source program NAME.source")
     given = parser.parse_args()
     if given.jobs < 1:
         parser.error("--jobs takes a number above 0")

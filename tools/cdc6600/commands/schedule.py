@@ -46,7 +46,8 @@ def arguments():
     parser.add_argument("--budget", metavar="N", type=budget, default=BUDGET,
                         help=f"issue at most N instructions, {BUDGET} by default")
     parser.add_argument("--summary", action="store_true", help="print the cycles and the waits instead of the session")
-    parser.add_argument("deck", metavar="DECK", help="a file with a deck; a schedule after it isn't read")
+    parser.add_argument("deck", metavar="DECK",
+                        help="a file with a deck, whose schedule isn't read, or a source program NAME.source")
     return parser.parse_args()
 
 

@@ -24,7 +24,7 @@ import argparse
 import re
 import sys
 
-from cdc6600.comparing.arguments import STANDARD_INPUT, bytes_of, number, standard_input
+from cdc6600.comparing.arguments import STANDARD_INPUT, deck_of, number, standard_input
 from cdc6600.comparing.faults import BadInput, ended
 from cdc6600.comparing.proved import Given, Proved
 from cdc6600.comparing.tracing import Trace
@@ -67,7 +67,8 @@ def arguments():
     limits.add_argument("--first", metavar="N", type=count, help="print the first N steps")
     limits.add_argument("--last", metavar="N", type=count, help="print the last N steps")
     limits.add_argument("--steps", metavar="A-B", type=span, help="print the steps A to B; A- up to the last one")
-    parser.add_argument("deck", metavar="DECK", help="a file with a deck, or - for standard input")
+    parser.add_argument("deck", metavar="DECK",
+                        help="a file with a deck, a source program NAME.source, or - for a deck on standard input")
     parser.add_argument("log", metavar="LOG", nargs="?", help="the log to go through")
     given = parser.parse_args()
     if given.budget and given.log is not None:
@@ -78,7 +79,7 @@ def arguments():
 def traced(given, name):
     """The trace that the arguments ask for."""
     proved = Proved()
-    text = standard_input() if given.deck == STANDARD_INPUT else bytes_of(given.deck)
+    text = standard_input() if given.deck == STANDARD_INPUT else deck_of(given.deck)
     deck, options = Given(proved, name, text), [f"--budget={given.budget}"] if given.budget else []
     log = proved.log(text, name, "--sequential", *options) if given.log is None else given.log
     return Trace(proved, deck, log)

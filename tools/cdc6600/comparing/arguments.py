@@ -3,6 +3,8 @@
 import argparse
 from pathlib import Path
 
+from cdc6600.assembling.sources import Refused, as_deck
+
 from .faults import BadInput
 
 # The seconds that a call of an emulator may take, if nothing else is said, and how many more for each million steps of
@@ -56,6 +58,16 @@ def bytes_of(file):
         return Path(file).read_bytes()
     except (OSError, ValueError) as fault:
         raise BadInput(f"{file}: {getattr(fault, 'strerror', None) or fault}") from None
+
+
+def deck_of(file):
+    """What a file has as a deck. A source program is assembled.
+
+    Raises BadInput where it can't be read, or is a source program with a fault."""
+    try:
+        return as_deck(file, bytes_of(file))
+    except Refused as fault:
+        raise BadInput(str(fault)) from None
 
 
 def standard_input():

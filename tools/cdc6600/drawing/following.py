@@ -8,6 +8,8 @@ import re
 from functools import lru_cache
 from pathlib import Path
 
+from cdc6600.assembling.sources import Refused, as_deck
+
 UNITS = "(?:branch|boolean|shift|add|longadd|multiply1|multiply2|divide|increment1|increment2)"
 EVENT = re.compile(
     rf"issue|exchange|end|drain|(?:accept|return|bank) [0-9][0-9]?|ask [0-7]{{1,6}}|(?:read|finish|store) {UNITS}"
@@ -39,9 +41,11 @@ class Fault(Exception):
 
 
 def text_of(file):
-    """What a file has, a character for each byte."""
+    """What a file has, a character for each byte. A source program is assembled."""
     try:
-        return Path(file).read_bytes().decode("latin-1")
+        return as_deck(file, Path(file).read_bytes()).decode("latin-1")
+    except Refused as fault:
+        raise Fault(*fault.args) from None
     except OSError as fault:
         raise Fault(file, fault.strerror) from None
 

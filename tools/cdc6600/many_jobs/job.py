@@ -6,6 +6,8 @@ import os
 import signal
 from contextlib import suppress
 
+from cdc6600.assembling.sources import ENDING, Refused, as_deck
+
 from .signals import waiting
 
 # The statuses that another run would have too. Such a job is done.
@@ -69,7 +71,7 @@ class Job:
 
     def __init__(self, deck, folder, is_sequential):
         self.deck, self.folder, self.is_sequential = deck, folder, is_sequential
-        self.stem = deck.removesuffix(".deck")
+        self.stem = deck.removesuffix(ENDING if deck.endswith(ENDING) else ".deck")
         self.name = os.path.basename(self.stem)
         self.status, self.said = None, ""
         # The open files: the deck, the one with the lock, the dump, and standard error; then the process of the run.
@@ -86,10 +88,7 @@ class Job:
         call or returns at once. The kernel removes the lock of a call that is killed.
 
         Raises Unread if the deck can't be read."""
-        try:
-            self.input = os.open(self.deck, os.O_RDONLY | os.O_CLOEXEC)
-        except OSError as fault:
-            raise Unread(fault.strerror) from None
+        self.open_deck()
         self.lock = os.open(self.file("job"), os.O_RDWR | os.O_CREAT | os.O_CLOEXEC, 0o666)
         try:
             with waiting():
@@ -97,6 +96,23 @@ class Job:
         except BlockingIOError:
             return False
         return True
+
+    def open_deck(self):
+        """Opens the deck. That of a source program is a file in memory.
+
+        Raises Unread if it can't be read, or is a source program with a fault."""
+        try:
+            self.input = os.open(self.deck, os.O_RDONLY | os.O_CLOEXEC)
+            if self.deck.endswith(ENDING):
+                deck = as_deck(self.deck, content_of(self.input))
+                os.close(self.input)
+                self.input = os.memfd_create("deck")
+                with open(self.input, "wb", closefd=False) as file:
+                    file.write(deck)
+        except OSError as fault:
+            raise Unread(fault.strerror) from None
+        except Refused as fault:
+            raise Unread(str(fault)) from None
 
     def path(self):
         """The path of the deck from the folder on, which stays true if both are moved together."""
