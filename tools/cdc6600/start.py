@@ -1,11 +1,15 @@
 """Starts the tools: the commands in tools/ call this and have nothing else.
 
-An interrupt may come while the modules of a tool are imported. It is kept quiet from here on; later the tool handles it
-itself. So this module imports nothing that takes long, and the tool's own module is imported by its name.
+An interrupt may come while the modules of a tool are imported, or memory may be refused. The one is kept quiet from
+here on, the other is told in a line; later the tool handles both itself. So this module imports nothing that takes
+long, and the tool's own module is imported by its name.
 """
 
 import sys
 from importlib import import_module
+
+# The fault of a library that Python can't load where memory is short.
+NO_ROOM = "failed to map segment"
 
 
 def is_interrupt(fault):
@@ -16,8 +20,11 @@ def is_interrupt(fault):
 
 
 def hook(kind, fault, trace):
-    """Shows no traceback of an interrupt. Python ends by the signal afterwards."""
-    if not is_interrupt(fault):
+    """Shows no traceback of an interrupt, and of refused memory. Python ends by the signal afterwards, or with
+    status 1."""
+    if isinstance(fault, MemoryError) or (isinstance(fault, ImportError) and NO_ROOM in str(fault)):
+        sys.stderr.write(f"{sys.argv[0]}: memory was refused\n")
+    elif not is_interrupt(fault):
         sys.__excepthook__(kind, fault, trace)
 
 

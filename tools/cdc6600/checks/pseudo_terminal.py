@@ -15,7 +15,7 @@ import termios
 import tty
 from contextlib import suppress
 
-from cdc6600.shared.waiting import Missing, finish, wait_until
+from cdc6600.shared.waiting import Missing, finish, input_of, wait_until
 
 COLUMNS, LINES = 80, 24
 KEYS = {"Up": "\x1bA", "Down": "\x1bB", "Left": "\x1bD", "Enter": "\r", "Redraw": "\x0c", "Closed": "\x04",
@@ -185,8 +185,10 @@ def told_at_terminal(words, text):
     byte. It is read after the program's end, so it has to fit into the terminal's buffer of some kilobytes."""
     ours, its = pty.openpty()
     tty.setraw(its)
-    with subprocess.Popen(words, stdin=subprocess.PIPE, stdout=subprocess.DEVNULL, stderr=its) as process:
-        finish(process, " ".join(map(str, words)), text)
+    with input_of(text) as given:
+        process = subprocess.Popen(words, stdin=given, stdout=subprocess.DEVNULL, stderr=its)
+    with process:
+        finish(process, " ".join(map(str, words)))
     os.close(its)
     told = b""
     # At its end a terminal has an error where a pipe has no bytes.

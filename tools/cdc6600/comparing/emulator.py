@@ -8,6 +8,7 @@ import subprocess
 import tempfile
 import threading
 
+from cdc6600.shared.ending import why_not_started
 from cdc6600.shared.program import words_and_input
 from cdc6600.shared.waiting import Clock
 
@@ -111,7 +112,7 @@ class Emulator:
                 given.seek(0)
                 return subprocess.Popen([*self.words, *words], stdin=given, **piped, start_new_session=True)
         except OSError as fault:
-            raise BadInput(f"the command {self.command}: {fault.strerror}") from None
+            raise BadInput(f"the command {self.command}: {why_not_started(fault)}") from None
 
     def limit(self, steps):
         """The seconds that a call with so many steps may take."""

@@ -67,7 +67,8 @@ def read_all(main):
     except BrokenPipeError:
         raise
     except OSError as fault:
-        raise BadInput(f"{fault.filename or 'a device'}: {fault.strerror}") from None
+        line = ending.refused(fault) or f"{fault.filename or 'a device'}: {fault.strerror}"
+        raise BadInput(line) from None
 
 
 def ended(tool, main):

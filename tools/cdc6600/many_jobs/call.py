@@ -6,18 +6,20 @@ ended through another.
 """
 
 import os
+import select
 import signal
 from collections import Counter, deque
 from contextlib import suppress
 from struct import Struct
-from threading import Thread
+
+from cdc6600.shared.ending import refused
 
 from .job import FINAL, Fault, Unread
-from .signals import hold_signals, let_signals_in
+from .signals import hold_signals, let_signals_in, waiting
 
 NUMBER = Struct("=I")
-# A report has room in a pipe as a whole, so the reports of several workers don't mix.
-LONGEST = 1000
+# A report has room in a pipe as a whole, so the reports of several workers don't mix. So have the numbers of some jobs.
+LONGEST, PIECE, PART = 1000, 512 * NUMBER.size, 65536
 
 
 class Worker:
@@ -31,11 +33,16 @@ class Worker:
         """Runs jobs until there are no more. A job that another call runs is looked at again at the end: then the
         worker waits for that call."""
         locked = deque()
-        while number := os.read(self.tasks, NUMBER.size):
+        while number := self.next_number():
             if not self.run(*NUMBER.unpack(number), waits=False):
                 locked.append(number)
         for number in locked:
             self.run(*NUMBER.unpack(number), waits=True)
+
+    def next_number(self):
+        """Waits for the number of the next job; nothing if there is none."""
+        with waiting():
+            return os.read(self.tasks, NUMBER.size)
 
     def run(self, number, waits):
         """Runs a job, unless it is done, and reports it. False if another call runs it and this one doesn't wait."""
@@ -63,9 +70,9 @@ class Worker:
             for descriptor in others:
                 os.close(descriptor)
             self.work()
-        except (Fault, OSError) as fault:
+        except (Fault, OSError, MemoryError) as fault:
             with suppress(BrokenPipeError):
-                self.report(0, "!", False, str(fault) if isinstance(fault, Fault) else line_of(fault))
+                self.report(0, "!", False, line_of(fault))
         except SystemExit:
             pass
         finally:
@@ -73,15 +80,23 @@ class Worker:
 
 
 def line_of(fault):
-    """A fault of the system as a line."""
+    """A fault as a line."""
+    if refused(fault) or not isinstance(fault, OSError):
+        return refused(fault) or str(fault)
     name = fault.filename
     return f"{name if isinstance(name, str) else os.fsdecode(name)}: {fault.strerror}" if name else fault.strerror
 
 
-def feed(stream, many):
-    """Writes the numbers of the jobs, as far as there are workers to read them."""
-    with suppress(BrokenPipeError), stream:
-        stream.write(b"".join(map(NUMBER.pack, range(many))))
+def fed(descriptor, numbers):
+    """Writes the first numbers of jobs, if there is a worker to read them; what is left. At the end it closes the
+    pipe."""
+    try:
+        left = numbers[os.write(descriptor, numbers[:PIECE]) :]
+    except BrokenPipeError:
+        left = b""
+    if not left:
+        os.close(descriptor)
+    return left
 
 
 class Call:
@@ -106,11 +121,9 @@ class Call:
                 workers.append(os.fork() or worker.process((feeding, reading)))
             os.close(writing)
             os.close(tasks)
-            Thread(target=feed, args=(open(feeding, "wb"), len(self.jobs)), daemon=True).start()
             let_signals_in()
-            with open(reading, "rb") as reports:
-                for line in reports:
-                    self.account(*line.decode(errors="replace").rstrip("\n").split(" ", 3))
+            for line in self.reports(reading, feeding):
+                self.account(*line.decode(errors="replace").split(" ", 3))
         finally:
             hold_signals()
             for process in workers:
@@ -119,6 +132,21 @@ class Call:
                 os.waitpid(process, 0)
         for number in sorted(self.waiting):
             self.account(number, "-", "0", "the worker that ran it was killed")
+
+    def reports(self, reading, feeding):
+        """The reports of the workers, a line each, up to the end of the last worker. Meanwhile it writes the numbers of
+        the jobs, as the workers read them, and then closes their pipe."""
+        numbers, came = memoryview(b"".join(map(NUMBER.pack, range(len(self.jobs))))), b""
+        while True:
+            readable, writable, _ = select.select([reading], [feeding] * bool(numbers), [])
+            if writable:
+                numbers = fed(feeding, numbers)
+            if readable:
+                part = os.read(reading, PART)
+                if not part:
+                    return
+                *lines, came = (came + part).split(b"\n")
+                yield from lines
 
     def account(self, number, status, is_run, said):
         """Counts a job that has ended.

@@ -7,6 +7,7 @@ import signal
 from contextlib import suppress
 
 from cdc6600.assembling.sources import ENDING, Refused, as_deck
+from cdc6600.shared.ending import why_not_started
 
 from .signals import waiting
 
@@ -184,7 +185,10 @@ class Job:
         self.output, self.told = os.open(self.file("dump.part"), flags, 0o666), os.memfd_create("told")
         streams = [(os.POSIX_SPAWN_DUP2, it, to) for to, it in enumerate((self.input, self.output, self.told))]
         how = {"file_actions": streams, "setsigdef": RESTORED, "setsigmask": ()}
-        self.process = os.posix_spawn(program, [program, *words], environment, **how)
+        try:
+            self.process = os.posix_spawn(program, [program, *words], environment, **how)
+        except OSError as fault:
+            raise Fault(f"{program}: {why_not_started(fault)}") from None
 
     def wait(self):
         """Waits for the end of the run; its status. If a signal has killed it, that is 128 and the signal's number, as

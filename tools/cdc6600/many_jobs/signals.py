@@ -1,7 +1,7 @@
 """How signals end a call of tools/run-jobs.
 
-A worker lets signals in only while it waits, for a lock or for the end of a run. So a signal never interrupts it while
-it keeps a result or removes one.
+A worker lets signals in only while it waits: for its next job, for a lock, or for the end of a run. So a signal never
+interrupts it while it keeps a result or removes one.
 """
 
 import signal

@@ -4,6 +4,7 @@ import os
 import subprocess
 
 from cdc6600.drawing.following import Fault
+from cdc6600.shared.ending import why_not_started
 from cdc6600.shared.waiting import Missing, wait_for_stream
 
 # What a pipe takes at once, so that a write never waits.
@@ -20,7 +21,7 @@ class Conversation:
             # An interrupt of this script doesn't reach a process that has a session of its own.
             self.process = subprocess.Popen([path, "events"], bufsize=0, start_new_session=True, **pipes)
         except OSError as fault:
-            raise Fault(path, fault.strerror) from None
+            raise Fault(path, why_not_started(fault)) from None
         self.write(deck)
 
     def ask(self, event):

@@ -1,15 +1,44 @@
-"""How a script ends."""
+"""How a script ends, and what it tells then."""
 
+import errno
 import os
 import signal
 import sys
 
 # As a shell tells it of a command that a signal has ended.
 INTERRUPTED, UNREAD = 128 + signal.SIGINT, 128 + signal.SIGPIPE
+# The faults with which the system refuses a process, and how Python begins the fault of a refused thread.
+REFUSALS, NO_THREAD = (errno.EAGAIN, errno.ENOMEM), "can't start new thread"
 
 
 class Unwritten(Exception):
     """Standard output can't be written. Its text is the line for the user."""
+
+
+def why_not_started(fault):
+    """Why a program couldn't be started, by the fault of the system."""
+    return f"a process was refused: {fault.strerror}" if fault.errno in REFUSALS else fault.strerror
+
+
+def refused(fault):
+    """What the system has refused to a script: memory, a thread or a process; none for any other fault."""
+    if isinstance(fault, MemoryError):
+        return "memory was refused"
+    if isinstance(fault, RuntimeError) and str(fault).startswith(NO_THREAD):
+        return "a thread was refused"
+    if isinstance(fault, OSError) and fault.errno in REFUSALS and fault.filename is None:
+        return why_not_started(fault)
+    return None
+
+
+def printable(text):
+    """A text of one line, in which characters that a terminal wouldn't show as such are replaced by their codes."""
+    return "".join(it if it.isprintable() else it.encode("unicode_escape").decode() for it in text)
+
+
+def tell(name, fault):
+    """Writes what is wrong to standard error, in one line after the script's name."""
+    print(f"{name}: {printable(str(fault))}", file=sys.stderr)
 
 
 def flush_output():
@@ -38,8 +67,8 @@ def shown(name, text):
 
 def ended(name, main, *faults, status=1):
     """Calls the main function of a script; its status. A fault of one of these kinds is told in one line after the
-    script's name, with this status. So is standard output that can't be written. An interrupt ends it quietly, and so
-    does it where nobody reads what it prints."""
+    script's name, with this status. So is standard output that can't be written, and what the system has refused. An
+    interrupt ends it quietly, and so does it where nobody reads what it prints."""
     try:
         try:
             return main()
@@ -47,14 +76,15 @@ def ended(name, main, *faults, status=1):
             flush_output()
     except BrokenPipeError:
         return UNREAD
-    except (Unwritten, *faults) as fault:
-        print(f"{name}: {fault}", file=sys.stderr)
-        return status
-    except OSError as fault:
-        # A fault of a file names it; one of standard output doesn't.
-        if fault.filename is not None:
-            raise
-        print(f"{name}: standard output: {fault.strerror}", file=sys.stderr)
-        return status
     except KeyboardInterrupt:
         return INTERRUPTED
+    except (Unwritten, *faults) as fault:
+        line = fault
+    except (OSError, MemoryError, RuntimeError) as fault:
+        # A fault of a file names it; one of standard output doesn't.
+        if refused(fault) is None and (isinstance(fault, RuntimeError) or fault.filename is not None):
+            raise
+        line = refused(fault) or f"standard output: {fault.strerror}"
+    # By now the memory of what has failed is free.
+    tell(name, line)
+    return status

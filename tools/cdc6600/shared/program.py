@@ -7,7 +7,8 @@ import sys
 from pathlib import Path
 from typing import NamedTuple
 
-from .waiting import MINUTES, Missing, finish
+from .ending import why_not_started
+from .waiting import MINUTES, Missing, finish, input_of
 
 ROOT = Path(__file__).resolve().parents[3]
 # The program of these tools: in a checkout the one that is built, otherwise the one that tools/install put beside them.
@@ -92,14 +93,15 @@ class Program:
         and its status is that of `timeout`, 124.
 
         Raises NoProgram where there is none."""
-        pipes = {"stdin": subprocess.PIPE, "stdout": subprocess.PIPE, "stderr": subprocess.PIPE}
-        try:
-            process = subprocess.Popen([self.path, *words], **pipes, env=environment)
-        except OSError as fault:
-            raise NoProgram(self.path, fault.strerror) from None
+        pipes = {"stdout": subprocess.PIPE, "stderr": subprocess.PIPE}
+        with input_of(text) as given:
+            try:
+                process = subprocess.Popen([self.path, *words], stdin=given, **pipes, env=environment)
+            except OSError as fault:
+                raise NoProgram(self.path, why_not_started(fault)) from None
         with process:
             try:
-                printed, told = finish(process, self.path, text, minutes)
+                printed, told = finish(process, self.path, minutes)
             except Missing:
                 return Ran(124, b"", b"waited %d minutes for its end\n" % minutes)
         return Ran(process.returncode, printed, told)

@@ -5,11 +5,11 @@ expects, ten minutes if nothing else is said, and then says what it waited for. 
 stopped itself doesn't count.
 """
 
+import os
 import select
 import subprocess
 import time
-from contextlib import suppress
-from threading import Thread
+from contextlib import contextmanager, suppress
 
 MINUTES = 10
 # The seconds between two tests of a condition, and between two looks at a process.
@@ -60,21 +60,21 @@ def wait_for_stream(what, reading=(), writing=()):
     wait_until(lambda: ready(0), what, pause=ready)
 
 
-def give(stream, text):
-    """Writes an input, as much of it as is read."""
-    with suppress(BrokenPipeError), stream:
-        stream.write(text)
+@contextmanager
+def input_of(text):
+    """A file in memory that has an input, for a process to read. Nothing has to be written while the process runs, so
+    no thread is needed, which the system might refuse."""
+    with open(os.memfd_create("input"), "w+b") as file:
+        file.write(text)
+        file.seek(0)
+        yield file
 
 
-def finish(process, what, text=None, minutes=MINUTES):
-    """Gives a process this input, if there is some, and waits for its end; what it wrote to its pipes.
+def finish(process, what, minutes=MINUTES):
+    """Waits for the end of a process; what it wrote to its pipes.
 
     Raises Missing if it doesn't end within so many minutes, and kills it then."""
     clock = Clock(LOOK)
-    if text is not None:
-        # `communicate` writes no more of its input when it is called once more.
-        stream, process.stdin = process.stdin, None
-        Thread(target=give, args=(stream, text), daemon=True).start()
     try:
         while clock.read() < 60 * minutes:
             with suppress(subprocess.TimeoutExpired):
@@ -92,7 +92,7 @@ def run(words, minutes=MINUTES, capture_output=False, **how):
     Raises Missing if it doesn't end within so many minutes."""
     pipes = {"stdout": subprocess.PIPE, "stderr": subprocess.PIPE} if capture_output else {}
     with subprocess.Popen(words, **pipes, **how) as process:
-        printed, told = finish(process, " ".join(map(str, words)), None, minutes)
+        printed, told = finish(process, " ".join(map(str, words)), minutes)
     return subprocess.CompletedProcess(words, process.returncode, printed, told)
 
 

@@ -1,0 +1,142 @@
+"""Runs the tools where the system refuses them something.
+
+- Each process and each thread that a tool starts is refused in turn: the first, the second, the third, then the fourth,
+  the eighth, the sixteenth .., up to a run that starts fewer.
+- Memory is short, by several limits.
+
+Each run has to end soon. One to which something is refused has a status that isn't 0, and one line on standard error,
+which begins with the name of the tool.
+
+It says nothing if all is right, otherwise a line for each fault. CDC6600 may name the program to ask.
+
+Run it after a change of `tools/cdc6600/shared`, of `tools/cdc6600/many_jobs`, or of what starts processes or threads.
+"""
+
+import os
+import resource
+import signal
+import subprocess
+import sys
+import tempfile
+from contextlib import suppress
+from itertools import accumulate, chain, count
+from pathlib import Path
+from typing import NamedTuple
+
+from cdc6600.shared.decks import FIRST, RUN, SESSIONS
+from cdc6600.shared.program import ROOT, Program, tell
+from cdc6600.shared.waiting import Missing, faults_found, finish, input_of
+
+from .refused_starts import PROCESS, THREAD
+
+HARNESS = (sys.executable, "-B", "-m", "cdc6600.checks.refused_starts")
+# The minutes that a run may take, beside other work too.
+MINUTES = 3
+# With the least of these numbers of bytes Python itself can begin, with the most each of these tools ends as usual.
+LEAST_MEMORY, MOST_MEMORY = 20 << 20, 100 << 20
+# The program, which has all memory.
+WRAPPER = """#!/bin/sh
+ulimit -S -v unlimited
+exec "$PROGRAM" "$@"
+"""
+SESSION, DECK = str(SESSIONS / "conflicts.session"), str(FIRST)
+
+
+class Tool(NamedTuple):
+    """A call of a tool: its name, its words after that, and its standard input."""
+
+    name: str
+    words: tuple
+    text: bytes = b""
+
+    @property
+    def shown(self):
+        """The call as it is told."""
+        return f"tools/{self.name} {' '.join(self.words)}"
+
+
+class Run(NamedTuple):
+    """How a run of a tool ended: its status, and its lines on standard error."""
+
+    status: int
+    told: list
+
+
+def tools(folder):
+    """The calls that are tried; what they write goes into a folder."""
+    yield Tool("timeline", (SESSION,))
+    yield Tool("timeline", ("--html", SESSION))
+    yield Tool("gallery", (f"{folder}/pages", SESSION))
+    yield Tool("beside", ("--values", SESSION))
+    yield Tool("schedule", (DECK,))
+    yield Tool("explore", ("--sessions", "2", DECK))
+    yield Tool("compare", ("sh -c 'exec \"$CDC6600\" replay \"$1\"' sh", DECK))
+    yield Tool("operate", ("--plain", DECK), b"next\nundo\n")
+    yield Tool("trace", (DECK,))
+    decks = (str(RUN / f"{name}.deck") for name in ("jump", "divide"))
+    yield Tool("run-jobs", ("--jobs", "3", f"{folder}/jobs", DECK, *decks))
+
+
+def ended(tool, words, program, **how):
+    """Runs a tool by these words with a program up to its end, in a session of its own, with which it is killed if it
+    doesn't end.
+
+    Raises Missing then."""
+    environment = {**os.environ, "PYTHONPATH": str(ROOT / "tools"), "CDC6600": str(program)}
+    pipes = {"stdout": subprocess.DEVNULL, "stderr": subprocess.PIPE}
+    with input_of(tool.text) as given:
+        process = subprocess.Popen(words, stdin=given, **pipes, env=environment, start_new_session=True, **how)
+    with process:
+        try:
+            _, told = finish(process, tool.shown, MINUTES)
+        except Missing:
+            with suppress(ProcessLookupError):
+                os.killpg(process.pid, signal.SIGKILL)
+            raise
+    return Run(process.returncode, told.decode(errors="replace").splitlines())
+
+
+def faults_of_end(what, tool, run):
+    """What is wrong with the end of a run to which something was refused."""
+    is_told = len(run.told) == 1 and f"tools/{tool.name}: " in run.told[0]
+    return [] if run.status and is_told else [f"{tool.shown}, {what}: status {run.status}, told {run.told[-4:]}"]
+
+
+def places():
+    """The starts that are refused: each of the first ones, and then fewer and fewer."""
+    return chain((1, 2, 3), (4 << it for it in count()))
+
+
+def faults_of_starts(tool, kind, folder, program):
+    """Refuses a tool each start of a kind in turn; the faults."""
+    faults, mark = [], folder / "refused"
+    for at in places():
+        run = ended(tool, [*HARNESS, kind, str(at), mark, ROOT / f"tools/{tool.name}", *tool.words], program)
+        if not mark.exists():
+            return faults
+        mark.unlink()
+        faults += faults_of_end(f"{kind} {at} refused", tool, run)
+
+
+def faults_of_memory(tool, folder, program):
+    """Runs a tool with little memory, and with more and more up to its usual end; the faults."""
+    faults, wrapper = [], folder / "program"
+    wrapper.write_text(WRAPPER.replace("$PROGRAM", program), encoding="utf-8")
+    wrapper.chmod(0o755)
+    for most in accumulate(count(), lambda most, _: most + most // 50, initial=LEAST_MEMORY):
+        limited = {"preexec_fn": lambda most=most: resource.setrlimit(resource.RLIMIT_AS, (most, -1))}
+        run = ended(tool, [ROOT / f"tools/{tool.name}", *tool.words], wrapper, **limited)
+        if not run.status:
+            return faults
+        faults += faults_of_end(f"with {most} bytes of memory", tool, run)
+        if most > MOST_MEMORY:
+            return [*faults, f"{tool.shown}: {most} bytes of memory aren't enough"]
+
+
+def main():
+    program = Program().path
+    with tempfile.TemporaryDirectory() as room:
+        works = [lambda it=it, kind=kind: faults_of_starts(it, kind, Path(room), program)
+                 for it in tools(room) for kind in (PROCESS, THREAD)]
+        works += [lambda it=it: faults_of_memory(it, Path(room), program) for it in tools(room)]
+        return tell([fault for work in works for fault in faults_found(work)])
