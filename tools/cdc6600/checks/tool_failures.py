@@ -1,4 +1,4 @@
-"""Runs the tools where the system refuses them something.
+"""Runs the tools where the system refuses them something, and where a session is long.
 
 - Each process and each thread that a tool starts is refused in turn: the first, the second, the third, then the fourth,
   the eighth, the sixteenth .., up to a run that starts fewer.
@@ -6,6 +6,9 @@
 
 Each run has to end soon. One to which something is refused has a status that isn't 0, and one line on standard error,
 which begins with the name of the tool.
+
+A session with four times as many events is drawn as text in about four times the time of the processor, and never in
+nine times. One with more events than a picture has room for is refused as a picture and as pages.
 
 It says nothing if all is right, otherwise a line for each fault. CDC6600 may name the program to ask.
 
@@ -18,13 +21,16 @@ import signal
 import subprocess
 import sys
 import tempfile
+import time
 from contextlib import suppress
 from itertools import accumulate, chain, count
 from pathlib import Path
 from typing import NamedTuple
 
+from cdc6600.drawing.following import Following, Session
+from cdc6600.drawing.forms import MOST_COLUMNS, Form
 from cdc6600.shared.decks import FIRST, RUN, SESSIONS
-from cdc6600.shared.program import ROOT, Program, tell
+from cdc6600.shared.program import ROOT, Program, Ran, tell
 from cdc6600.shared.waiting import Missing, faults_found, finish, input_of
 
 from .refused_starts import PROCESS, THREAD
@@ -39,6 +45,10 @@ WRAPPER = """#!/bin/sh
 ulimit -S -v unlimited
 exec "$PROGRAM" "$@"
 """
+# The events of two sessions, one of which has four times as many, and how many times as long it may take.
+LONG, MOST_TIMES = (2000, 8000), 9
+OF_LONG_ADD, PASSES = ("issue", "read longadd", "finish longadd", "store longadd"), "46000" * 4
+SESSION_BEGIN = "core 256\nstart 40\nend\nask 40\nexchange\n"
 SESSION, DECK = str(SESSIONS / "conflicts.session"), str(FIRST)
 
 
@@ -133,10 +143,64 @@ def faults_of_memory(tool, folder, program):
             return [*faults, f"{tool.shown}: {most} bytes of memory aren't enough"]
 
 
+class Instant:
+    """A program that answers at once. Whatever the log is, each instruction of its listings and its dumps is the same:
+    one of Long Add, in the first parcel of a word that isn't held."""
+
+    path = "a program that answers at once"
+
+    def __init__(self, answers):
+        self.answers = answers
+
+    def run(self, words, _text):
+        """Lists a word, or answers the events."""
+        listed = " " * 28 + "IX3 X1+X2; NO; NO; NO\n"
+        return Ran(0, (listed if words == ["list"] else self.answers).encode(), b"")
+
+    @staticmethod
+    def replay(log, _text):
+        """Replays any log."""
+        state = ["P 000000 PARCEL 0 HELD none", "HALT running", "RA 000000 FL 000377 EM 0", *["A 0"] * 2, *["X 0"] * 8]
+        return Ran(0, "\n".join([*state, f"M 000000 {PASSES}", f"LOG {log}", ""]).encode(), b"")
+
+
+def session_of(events):
+    """A session with so many events of Long Add, and the program that answers it."""
+    many = range(1, events // len(OF_LONG_ADD) + 1)
+    answers = "".join(f"ok longadd {number}\nok\nok\nok\n" for number in many)
+    return SESSION_BEGIN + "".join(f"{event}\n" for event in OF_LONG_ADD) * len(many), Instant(f"ok\nok\n{answers}")
+
+
+def seconds_of(events):
+    """The seconds of the processor that it takes to draw so many events as text."""
+    text, program = session_of(events)
+    begun = time.process_time()
+    following = Following(program, Session("a long session", text), None, None)
+    following.follow()
+    for _ in Form(following).lines():
+        pass
+    return time.process_time() - begun
+
+
+def faults_of_long_sessions(folder):
+    """Draws long sessions; the faults."""
+    short, long = (min(seconds_of(events) for _ in range(2)) for events in LONG)
+    faults = [f"{LONG} events are drawn in {short:.2f} and {long:.2f} seconds"] if long > MOST_TIMES * short else []
+    file = folder / "long.session"
+    file.write_text(session_of(MOST_COLUMNS)[0], encoding="utf-8")
+    for name, *words in (("timeline", "--svg"), ("timeline", "--html"), ("gallery", f"{folder}/long")):
+        tool = Tool(name, (*words, str(file)))
+        run = ended(tool, [ROOT / f"tools/{name}", *tool.words], os.environ.get("CDC6600", ""))
+        faults += faults_of_end("too many events", tool, run)
+        faults += [] if str(MOST_COLUMNS) in "".join(run.told) else [f"{tool.shown}: the limit isn't told: {run.told}"]
+    return faults
+
+
 def main():
     program = Program().path
     with tempfile.TemporaryDirectory() as room:
         works = [lambda it=it, kind=kind: faults_of_starts(it, kind, Path(room), program)
                  for it in tools(room) for kind in (PROCESS, THREAD)]
         works += [lambda it=it: faults_of_memory(it, Path(room), program) for it in tools(room)]
+        works.append(lambda: faults_of_long_sessions(Path(room)))
         return tell([fault for work in works for fault in faults_found(work)])

@@ -9,6 +9,7 @@ from dataclasses import dataclass
 from pathlib import Path
 
 from cdc6600.drawing.following import Fault, Following, Session, text_of
+from cdc6600.drawing.forms import check_columns
 from cdc6600.drawing.index import Entry, index, links
 from cdc6600.drawing.page import Page
 from cdc6600.shared.decks import sessions, shown_by_sessions
@@ -51,7 +52,9 @@ class Shown:
 
 def followed(program, file, text):
     """A session that is followed to its end."""
-    following = Following(program, Session(file, text), None, None)
+    session = Session(file, text)
+    check_columns(file, len(session.events), "events")
+    following = Following(program, session, None, None)
     following.follow()
     return following
 

@@ -27,7 +27,7 @@ from pathlib import Path
 
 from cdc6600.drawing.comparison import Comparison
 from cdc6600.drawing.following import Fault, Following, Session, text_of
-from cdc6600.drawing.forms import Form
+from cdc6600.drawing.forms import Form, check_columns
 from cdc6600.drawing.page import Page
 from cdc6600.shared.ending import ended
 from cdc6600.shared.program import Program
@@ -61,9 +61,12 @@ def arguments():
     return given
 
 
-def followed(program, file, named=None):
+def followed(program, file, named=None, is_picture=True):
     """A session that is followed to its end, with the answers in a file if one is named."""
-    following = Following(program, Session(file, text_of(file)), named, text_of(named) if named else None)
+    session = Session(file, text_of(file))
+    if is_picture:
+        check_columns(file, len(session.events), "events")
+    following = Following(program, session, named, text_of(named) if named else None)
     following.follow()
     return following
 
@@ -87,14 +90,14 @@ def work():
     given, program = arguments(), Program()
     times = read_times(given.times) if given.cycles or given.compare else None
     if given.table:
-        sys.stdout.write(table_of(followed(program, given.session, given.second), given, times))
+        sys.stdout.write(table_of(followed(program, given.session, given.second, False), given, times))
     elif given.html:
         sys.stdout.reconfigure(encoding="utf-8", errors="replace")
         sys.stdout.write(page_of(given, program, times))
     else:
-        following = followed(program, given.session, given.second)
+        following = followed(program, given.session, given.second, given.svg)
         form = Form(following, clocked(following, times) if times else None)
-        sys.stdout.write(form.picture() if given.svg else form.text())
+        sys.stdout.writelines([form.picture()] if given.svg else (f"{line}\n" for line in form.lines()))
     return 0
 
 

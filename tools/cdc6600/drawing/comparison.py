@@ -29,6 +29,7 @@ class Timed:
     def draw(self, start):
         """Makes the drawings, which begin with these columns."""
         self.form, self.units = (kind(self.following, self.account.cycles, start) for kind in (Form, UnitForm))
+        self.form.check_columns()
 
     def titled(self, picture):
         """A picture below its name."""

@@ -5,6 +5,7 @@ drawing leads to. Words of memory and registers are those that `replay` prints f
 """
 
 import re
+from collections import defaultdict
 from functools import lru_cache
 from pathlib import Path
 
@@ -149,14 +150,18 @@ class Replays:
     @lru_cache(maxsize=None)
     def instruction(self, log):
         """The text of the instruction that is issued next after a log, as a listing has it, or none where its word
-        would be fetched out of range. In the word that is listed the parcels before it are passes."""
+        would be fetched out of range."""
         word, parcel = self.field(log, 0, 5), int(self.field(log, 0, 3))
         if word == "none":
             address = self.absolute(log, self.number(log, 0, 1))
             if address is None:
                 return None
             word = self.word(log, f"{address:o}")
-        word = PASS * parcel + word[5 * parcel :]
+        return self.listed(PASS * parcel + word[5 * parcel :], parcel)
+
+    @lru_cache(maxsize=None)
+    def listed(self, word, parcel):
+        """The text of the instruction at a parcel of a word, before which all parcels are passes."""
         ran = self.program.run(["list"], f"core 32\nword {word}\nstart 0\nend\n".encode())
         items = ran.printed.decode("latin-1").split("\n", maxsplit=1)[0][28:].split("; ")
         if len(items) <= parcel:
@@ -165,25 +170,44 @@ class Replays:
 
 
 class Log:
-    """The log of what was made so far. In `before` it is that before its last run of instructions."""
+    """The log of what was made so far: its entries before the last run of instructions, and how long that run is.
+    `marks` has the number of entries and the run after each event: the texts of all logs could be too long to be
+    kept."""
 
     def __init__(self):
-        self.text, self.before, self.run = "none", "", 0
+        self.entries, self.run, self.marks = [], 0, []
+
+    def __getitem__(self, n):
+        """The text of the log after the event n, from 0."""
+        return self.text_of(*self.marks[n])
+
+    @property
+    def text(self):
+        """The text of the log."""
+        return self.text_of(len(self.entries), self.run)
+
+    def text_of(self, entries, run):
+        """The text of the log up to so many entries and so many instructions."""
+        return " ".join([*self.entries[:entries], *[f"I{run}"] * bool(run)]) or "none"
 
     def add_instruction(self):
         self.run += 1
-        self.text = f"{self.before} I{self.run}"
 
     def add(self, entry):
         """Adds an exchange or a peripheral access."""
-        self.text = self.before = entry if self.text == "none" else f"{self.text} {entry}"
+        self.entries += [*[f"I{self.run}"] * bool(self.run), entry]
         self.run = 0
+
+    def end_event(self):
+        """Marks the end of an event."""
+        self.marks.append((len(self.entries), self.run))
 
 
 class Following:
     """The drawing of a session as it is followed: a row for each reservation, the first one for the machine itself.
 
-    `marks` has what a row has at an event, and `gaps` what it has before that. `refused` has a line for each refused
+    `marks` has what a row has at an event, `gaps` what it has before that if it is anything, and `rows_at` the rows
+    with a mark by the events. `refused` has a line for each refused
     event, and `ending` is the last line. `logs` has the log after each event."""
 
     def __init__(self, program, session, file, answers):
@@ -197,7 +221,8 @@ class Following:
         self.answers = printed.removesuffix("\n").split("\n") if printed else []
         self.check_deck(ran.told.decode("latin-1").split("\n", maxsplit=1)[0].removeprefix("cdc6600: "))
         self.replays, self.log = Replays(program, session, self.file), Log()
-        self.rows, self.marks, self.gaps, self.columns, self.logs = [Machine()], {}, {}, 0, []
+        self.rows, self.marks, self.gaps, self.columns, self.logs = [Machine()], {}, {}, 0, self.log
+        self.rows_at = defaultdict(list)
         self.holders, self.places, self.channels, self.asked = {}, {}, {}, None
         self.refused, self.ending, self.has_accesses = [], "", False
 
@@ -242,7 +267,7 @@ class Following:
         if not self.step(n, event):
             no_answer = f"is no answer to {line} of {self.session.file}, {event}"
             raise Fault(self.file, f"line {n + 1}, {self.answers[n]}, {no_answer}")
-        self.logs.append(self.log.text)
+        self.log.end_event()
 
     def stop(self, n, why):
         """Draws that the schedule stops here. No answer may be left."""
@@ -252,7 +277,7 @@ class Following:
 
     def step(self, n, event):
         """Draws an event; whether the answer fits."""
-        self.gaps.update({(row, n): it.state for row, it in enumerate(self.rows)})
+        self.gaps.update({(row, n): self.rows[row].state for row in self.pending if self.rows[row].state})
         kind, *fields = event.split(" ")
         if kind in ENDS:
             return self.close(n, kind)
@@ -260,9 +285,20 @@ class Following:
         if said.startswith("ok"):
             return self.make(n, kind, fields, row, said)
         code = said.split(" ")[0]
-        self.marks[row, n] = code
+        self.mark(row, n, code)
         self.refused.append(noted(n, event, said))
         return bool(re.match(r"E[0-9]+ ", said)) and code in REFUSABLE[kind].split()
+
+    @property
+    def pending(self):
+        """The rows that may have a state now: that of the machine, and those of the reservations that are pending."""
+        return {0, *self.holders.values(), *self.places.values(), *self.channels.values()}
+
+    def mark(self, row, n, mark):
+        """Puts a mark into a row at an event, in place of one that is there."""
+        if (row, n) not in self.marks:
+            self.rows_at[n].append(row)
+        self.marks[row, n] = mark
 
     def is_refused(self, n):
         """Whether an event was refused."""
@@ -280,7 +316,7 @@ class Following:
         """Draws an event that is made; whether the answer fits."""
         if kind == "issue" and said != "ok":
             return self.issue(n, said)
-        self.marks[row, n] = LETTER[kind] + (str(int(fields[0])) if kind == "bank" else "")
+        self.mark(row, n, LETTER[kind] + (str(int(fields[0])) if kind == "bank" else ""))
         if kind in ("ppread", "ppwrite"):
             return self.access(kind, fields, said)
         if kind in ("accept", "return", *AFTER.values()):
@@ -325,7 +361,8 @@ class Following:
         it = Reservation(found[1], text or "", before, self.log.text)
         it.address = self.reference_of(it) if it.refers else None
         self.rows.append(it)
-        self.holders[it.unit], self.marks[row, n] = row, "I"
+        self.holders[it.unit] = row
+        self.mark(row, n, "I")
         return bool(text)
 
     def reference_of(self, it):
@@ -355,24 +392,29 @@ class Following:
         """Draws the store event of a reservation: its reference, if any, takes the first free place or is out of range.
         Whether there is a place."""
         it = self.rows[row]
-        self.holders[it.unit], it.state, self.marks[row, n] = 0, "", "S"
+        self.holders[it.unit], it.state = 0, ""
+        self.mark(row, n, "S")
         if not it.refers:
             return True
         if it.channel:
             self.channels[it.channel] = row
         if it.address is None:
-            self.marks[row, n], it.state = "O", IN_CHANNEL if it.channel else ""
+            it.state = IN_CHANNEL if it.channel else ""
+            self.mark(row, n, "O")
             return True
         place = next((number for number in range(PLACES) if not self.places.get(number)), None)  # E11
         if place is not None:
-            self.places[place], it.state, self.marks[row, n] = row, IN_HOPPER, f"H{place}"
+            self.places[place], it.state = row, IN_HOPPER
+            self.mark(row, n, f"H{place}")
         return place is not None
 
     def close(self, n, kind):
         """Draws the last line of a schedule; whether the rest of the answers is what the program prints for the log."""
         log, rest = self.log.text, self.answers[n:]
         if kind == "drain":
-            self.marks.update({(row, n): "D" for row, it in enumerate(self.rows) if not row or it.state})
+            for row in sorted(self.pending):
+                if not row or self.rows[row].state:
+                    self.mark(row, n, "D")
         if kind == "end" and rest[0] == "NOT DRAINED":
             self.ending = noted(n, kind, f"{rest[0]}; LOG {log}")
             return rest[1:] == [f"LOG {log}"]

@@ -3,8 +3,9 @@ the events are given, a minor cycle with all its events."""
 
 import xml.etree.ElementTree as ET
 from bisect import bisect_left
+from collections import defaultdict
 
-from .following import IN_CHANNEL, IN_HOPPER, LETTER, RESERVED
+from .following import IN_CHANNEL, IN_HOPPER, LETTER, RESERVED, Fault
 from .instructions import UNITS
 
 SVG, SPACE = "http://www.w3.org/2000/svg", "{http://www.w3.org/XML/1998/namespace}space"
@@ -15,6 +16,8 @@ LINE, COLUMN, LETTER_WIDTH, MARGIN = 22, 34, 8, 10
 # What is left free between two marks that are longer than a column.
 GAP = 10
 BAR_HEIGHT, BAR_RISE, LEAST_WIDTH = 14, 11, 880
+# The most columns of a picture or a page: a browser doesn't show what is much wider.
+MOST_COLUMNS = 5000
 # The two rows above that of the machine.
 EVENTS, KINDS = -2, -1
 ACCESSES = "machine: P a peripheral processor read a word   W it wrote one"
@@ -54,9 +57,9 @@ class Form:
         self.last_lines = [*following.refused, following.ending]
         # The first event of each column or, in an empty one, the next event.
         self.firsts = [bisect_left(self.column_of, column) for column in range(len(self.events))]
+        self.cells = self.filled_cells()
         # The letters of the longest mark.
-        columns = range(len(self.events))
-        self.longest = max((len(self.mark(row, at)) for row in self.labels for at in columns), default=1)
+        self.longest = max((len(self.mark(row, at)) for row in self.labels for at in self.columns(row)), default=1)
         self.arrange(self.wide, max(COLUMN, LETTER_WIDTH * self.longest + GAP), len(self.events))
 
     def names(self):
@@ -69,6 +72,21 @@ class Form:
         begins, how wide the picture is, and how high its rows are together."""
         self.left, self.height = LETTER_WIDTH * wide + MARGIN, LINE * len(self.labels) + MARGIN
         self.column, self.width = column, self.left + column * columns + 2 * MARGIN
+
+    def filled_cells(self):
+        """The columns in which a row has a mark, or something before it, by the rows."""
+        following, cells, after = self.following, defaultdict(set), defaultdict(list)
+        for column, n in enumerate(self.firsts):
+            after[n].append(column)
+        for row, n in following.gaps:
+            cells[row].update(after[n])
+        for row, n in following.marks:
+            cells[row].update(self.column_of[n : n + 1])
+        return cells
+
+    def columns(self, row):
+        """The columns of a row that may have something, from left to right."""
+        return sorted(self.cells[row]) if row >= 0 else range(len(self.events))
 
     def mark(self, row, column):
         """What a row has in a column."""
@@ -88,21 +106,33 @@ class Form:
 
     def text(self):
         """The drawing as text."""
-        columns = range(len(self.events))
+        return "".join(f"{line}\n" for line in self.lines())
+
+    def lines(self):
+        """The lines of the drawing as text."""
         width = max(len(str(max(self.numbers, default=0))) + 1, 4, self.longest + 1 if self.is_timed else 0)
-        lines = []
         for row, label in self.labels.items():
-            marks = "".join(self.padded(row, n, width) for n in columns)
-            lines.append(f"{label:<{self.wide}}{marks}".rstrip(" "))
-        return "\n".join([*lines, "", *self.last_lines, "", *self.legends, ""])
+            yield self.line(row, f"{label:<{self.wide}}", width).rstrip(" ")
+        yield from ["", *self.last_lines, "", *self.legends]
+
+    def line(self, row, label, width):
+        """A row as text: its label, and its columns of this width up to the last one that has something."""
+        columns = self.columns(row)
+        first, end = (columns[0], columns[-1] + 1) if columns else (0, 0)
+        return label + " " * (width * first) + "".join(self.padded(row, n, width) for n in range(first, end))
 
     def padded(self, row, column, width):
         """The mark in a column, with what its row has before it."""
         gap = self.gap(row, column) or " "
         return (self.mark(row, column) or gap).rjust(width, gap)
 
+    def check_columns(self):
+        """Raises Fault where a picture has no room for all columns."""
+        check_columns(self.following.session.file, len(self.events), "minor cycles" if self.is_timed else "events")
+
     def picture(self):
         """The drawing as a picture."""
+        self.check_columns()
         height = LINE * (len(self.labels) + len(self.last_lines) + len(self.legends) + 3)
         root = picture_of(max(self.width, LEAST_WIDTH), height)
         for row in self.labels:
@@ -121,12 +151,13 @@ class Form:
         """How far down a row is written."""
         return LINE * (row - EVENTS + 1)
 
-    def add_row(self, root, row, y=None, columns=None):
-        """Adds a row's bars, and over them its marks: at its own height or at another one, of all columns or of some
+    def add_row(self, root, row, y=None, within=None):
+        """Adds a row's bars, and over them its marks: at its own height or at another one, of all columns or of a range
         of them."""
-        columns = range(len(self.events)) if columns is None else columns
+        within = within or range(len(self.events))
         y, wide = y or self.line_of(row), self.column
-        middle = self.left + wide // 2 - wide * columns.start
+        middle = self.left + wide // 2 - wide * within.start
+        columns = [at for at in self.columns(row) if at in within]
         for at in (at for at in columns if self.gap(row, at)):
             x = max(middle + wide * (at - 1), self.left)
             add_bar(root, x, y, middle + wide * at - x, self.gap(row, at))
@@ -137,8 +168,7 @@ class Form:
 
     def rows_in(self, columns):
         """The rows of some columns: those above the reservations, and those with a mark or a bar there."""
-        return [row for row in self.labels
-                if row <= 0 or any(self.mark(row, at) or self.gap(row, at) for at in columns)]
+        return [row for row in self.labels if row <= 0 or not self.cells[row].isdisjoint(columns)]
 
     def add_lines(self, root, y):
         """Adds the lines below the rows, the last of which stands at a height."""
@@ -169,6 +199,10 @@ class UnitForm(Form):
     def names(self):
         """The labels of the rows, from above."""
         return ["cycle" if self.is_timed else "event", *UNITS]
+
+    def columns(self, row):
+        """The columns of a row that may have something: all."""
+        return range(len(self.events))
 
     def unit(self, row):
         """The unit of a row."""
@@ -210,6 +244,13 @@ def start_of(sessions):
               if following.session.events[n] == "issue" and not following.is_refused(n))
     first = min(issues, default=0)
     return sorted({first, *(cycle for _, cycles in sessions for cycle in cycles if cycle < first)})
+
+
+def check_columns(file, columns, what):
+    """Raises Fault where a session has too many columns to be drawn as a picture."""
+    if columns > MOST_COLUMNS:
+        limit = f"a picture or a page has room for {MOST_COLUMNS}; as text all are drawn"
+        raise Fault(file, f"{columns} {what}, and {limit}")
 
 
 def picture_of(width, height):

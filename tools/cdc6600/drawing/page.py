@@ -46,6 +46,7 @@ class Page:
         self.states, self.account = states_of(following), Account(following, times) if times else None
         cycles = self.account.cycles if times else None
         self.form, self.unit_form = Form(following, cycles), UnitForm(following, cycles)
+        self.form.check_columns()
         self.words = Words(following, self.states)
         self.values = all_values(following, self.states)
 

@@ -52,8 +52,8 @@ class State:
 
     def after(self, following, n):
         """The state after the event n of a session that is followed, where this is the one before it."""
-        marks = [(row, following.marks.get((row, n), "")) for row in range(len(following.rows))]
-        made = [(row, mark) for row, mark in marks if mark and not is_refusal(mark)]
+        marks = [(row, following.marks[row, n]) for row in following.rows_at[n]]
+        made = [(row, mark) for row, mark in marks if not is_refusal(mark)]
         if not made:
             return self
         state, (row, mark) = copy.deepcopy(self), made[0]
