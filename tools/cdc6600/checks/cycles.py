@@ -8,7 +8,7 @@
   pictures are in pieces of 40 columns.
 - The page that compares two schedules of a deck has to say of each what `tools/schedule --summary` says, by each
   policy: the instructions, the cycles, and the waits with their causes.
-- tools/gallery writes the pages of sessions and decks that it is given.
+- tools/gallery writes the pages of sessions and decks that it is given, and only over pages of its own.
 - Bad input has one line, and a status.
 
 It says nothing where all is right, else what is wrong. CDC6600 may name the program to ask.
@@ -289,6 +289,31 @@ def faults_of_pieces(folder):
     return faults if is_right else [*faults, f"the pieces miss {missing} marks, and the last row is at {rows}"]
 
 
+def faults_of_replaced(folder):
+    """What is wrong where something stands in the place of a page: only a page of the tool is written over."""
+    away, faults = folder / "away", []
+
+    def link(page):
+        page.rename(away)
+        page.symlink_to(away)
+
+    for name in ("one-bank.html", "index.html"):
+        page = folder / "again" / name
+        away.unlink(missing_ok=True)
+        for what, put, status in (
+            ("no page", lambda page: page.unlink(missing_ok=True), 0), ("a page", lambda page: None, 0),
+            ("a file", lambda page: page.write_text("mine", encoding="ascii"), 1), ("a link", link, 1),
+        ):
+            put(page)
+            ran = run([GALLERY, page.parent, session("one-bank").file], capture_output=True, text=True)
+            told = f"{name}: it is there already, and isn't written over\n" * status
+            is_kept = (page.read_text(encoding="utf-8") == "mine") == bool(status)
+            if not is_kept or ran.returncode != status or not ran.stderr.endswith(told):
+                faults.append(f"{what} in the place of {name}: it ends with {ran}")
+        page.unlink()
+    return faults
+
+
 def faults_of_refusals(folder):
     """Bad input that hasn't its line and its status."""
     conflicts, other = session("conflicts").file, session("one-bank").file
@@ -327,6 +352,6 @@ def main():
         faults += faults_of_json(folder)
         for name in ("load-store", "subroutine"):
             faults += faults_of_comparison(folder, name)
-        for work in (faults_of_units, faults_of_pieces, faults_of_gallery, faults_of_refusals):
+        for work in (faults_of_units, faults_of_pieces, faults_of_gallery, faults_of_replaced, faults_of_refusals):
             faults += work(folder)
     return tell(faults)

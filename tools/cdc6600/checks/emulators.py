@@ -9,6 +9,7 @@
   shows the edge. Each edge has to be shown by a stored deck.
 - Faults that later steps cover up have to be found on the way, and a slow emulator mustn't be called wrong.
 - Emulators that hang, die, print nothing or something else have to give one line and their status.
+- A deck is saved over no other file, and through no link.
 - The drawn decks have to be the same ones as ever, end before their budget, and have each instruction carried out.
 - The commands of docs/use/emulators.md have to print what is shown there.
 
@@ -263,6 +264,22 @@ def faults_of_input(words, fault, environment):
     return unlike(" ".join(words), ran(*words, **environment), wanted)
 
 
+def faults_of_saved(tried):
+    """What tools/compare does otherwise where the deck is saved: it writes over no other file, and through no link."""
+    saved = tried.folder / "saved"
+    agree = Ran(0, f"{DECK}: the dumps agree after all 7 steps of the log\n".encode(), b"")
+    refused = Ran(2, b"", f"tools/compare: {saved}: it is there already, and isn't written over\n".encode())
+    faults, words = [], ("compare", "--save", str(saved), tried.plain, DECK)
+    for what, put, wanted in (
+        ("no file", lambda: None, agree), ("the same deck", lambda: None, agree),
+        ("a link to it", lambda: (saved.rename(f"{saved}2"), saved.symlink_to(f"{saved}2")), refused),
+        ("another file", lambda: (saved.unlink(), saved.write_bytes(b"mine")), refused),
+    ):
+        put()
+        faults += unlike(f"--save over {what}", ran(*words), wanted)
+    return faults + unlike("the file that is kept", (saved.read_bytes(),), (b"mine",))
+
+
 def faults_of_tools(tried):
     """What the tools do otherwise with an emulator that is right, and with the program itself."""
     agree = Ran(0, f"{DECK}: the dumps agree after all 7 steps of the log\n".encode(), b"")
@@ -349,6 +366,7 @@ def works(tried):
     yield from (functools.partial(faults_of_bad, tried, number, bad) for number, bad in enumerate(BAD))
     yield functools.partial(faults_of_slow, tried)
     yield functools.partial(faults_of_tools, tried)
+    yield functools.partial(faults_of_saved, tried)
     yield functools.partial(faults_of_whole, tried)
     yield from (functools.partial(faults_of_covered, tried, covered) for covered in COVERED)
     yield from (functools.partial(faults_of_interrupt, tried, number) for number in (signal.SIGINT, signal.SIGTERM))

@@ -7,7 +7,8 @@ results of each with the files beside it.
   which has to run every deck once.
 - Edited decks and arguments are run again, and no others. Decks of one name are refused, in one call and in two. Two
   calls at once run each deck once. A call that is killed leaves no lock, and no part of a dump becomes a dump. One that
-  is interrupted leaves no part, and neither does a full disk.
+  is interrupted leaves no part, and neither does a full disk. Another program's results count as not done, and so do
+  those of a program that ends with 0 without a dump, or with 1 without a fault line.
 
 It says nothing if all is right, otherwise a line for each fault. CDC6600 may name the program to try.
 
@@ -172,9 +173,9 @@ class Small(Folder):
     SCRIPT = """#!/bin/sh
 deck=$(readlink /proc/$$/fd/0)
 echo "$deck $*" >>"$NOTES"
-echo begun
+echo "P begun"
 grep -q wait && while [ ! -e "$GO" ] && [ -e "$NOTES" ]; do sleep 0.05; done
-echo ended
+echo "LOG ended"
 """
 
     def __init__(self, room):
@@ -251,7 +252,8 @@ def faults_of_two_calls(folder):
     folder.go.unlink()
     faults = differing("two calls at once", [(counted(2), "", 0), (counted(2, 2), "", 0)], ends)
     faults += differing("the runs of two calls at once", ["one", "wait"], folder.noted())
-    return faults + differing("a dump of two calls at once", b"begun\nended\n", folder.kept("wait", "dump", "both"))
+    dump = folder.kept("wait", "dump", "both")
+    return faults + differing("a dump of two calls at once", b"P begun\nLOG ended\n", dump)
 
 
 def waits_for_lock(process):
@@ -302,6 +304,24 @@ def faults_of_full_disk(folder):
     return faults + differing("the call after a full disk", (0, counted(1), [], ["one"]), again)
 
 
+def faults_of_programs(folder):
+    """Runs a job by another program, and by programs that end as the right one does and print nothing; the faults."""
+    program, words, faults = folder.room / "program", ("programs", "decks/one.deck"), []
+    script, lines = folder.SCRIPT, ["prints no dump", "tells no fault"]
+    for what, text, status, ran in (
+        ("the first program", script, 0, ["one"]), ("the same program", script, 0, []),
+        ("another program", f"{script}# changed\n", 0, ["one"]), ("the first program again", script, 0, ["one"]),
+        ("a program without a dump", "#!/bin/sh\nexit 0\n", lines[0], []),
+        ("a program without a fault", "#!/bin/sh\nexit 1\n", lines[1], []),
+    ):
+        program.write_text(text, encoding="utf-8")
+        came, _, told, noted = folder.answer(*words)
+        is_told = not told if status == 0 else len(told) == 1 and status in told[0]
+        faults += differing(what, (int(status != 0), True, ran), (came, is_told, noted))
+    program.write_text(script, encoding="utf-8")
+    return faults + differing("files without a result", ["one.job"], folder.files("programs"))
+
+
 def main():
     program = Program()
     threaded, sequential, several = commands_of(PAGE)
@@ -317,5 +337,6 @@ def main():
             lambda: faults_of_kill(small),
             lambda: faults_of_interrupt(small),
             lambda: faults_of_full_disk(small),
+            lambda: faults_of_programs(small),
         )
         return tell([fault for work in works for fault in faults_found(work)])

@@ -10,6 +10,8 @@ they differ: all that a dump shows was right, and after this one step it isn't. 
 no earlier difference was covered up again. With --every 1 the dumps after each step are compared from the first one on:
 then it is the first, and a difference that is covered up before the log's end is found too.
 
+With --save no file is written over that has another text.
+
 The status is 0 where nothing differs, 1 where something does or the command gives no dump, 2 for bad input. CDC6600 may
 name the program to ask.
 """
@@ -21,11 +23,12 @@ from pathlib import Path
 
 from cdc6600.comparing.arguments import MORE, SECONDS, count, deck_of, seconds, slope
 from cdc6600.comparing.emulator import Emulator
-from cdc6600.comparing.faults import ended
+from cdc6600.comparing.faults import BadInput, ended
 from cdc6600.comparing.finding import Comparison, Replayed
 from cdc6600.comparing.proved import Given, Proved
 from cdc6600.comparing.reports import Report
 from cdc6600.comparing.steps import points_every
+from cdc6600.shared.writing import why_not_written
 
 
 def arguments():
@@ -44,6 +47,9 @@ def compared(given, folder):
     """The comparison that the arguments ask for."""
     proved, text = Proved(), deck_of(given.deck)
     emulator, deck = Emulator(given.command, given.seconds, given.more), Given(proved, given.deck, text)
+    why_not = given.save and why_not_written(given.save, lambda file: bytes_of(file) == deck.text)
+    if why_not:
+        raise BadInput(f"{given.save}: {why_not}")
     log = proved.log(text, given.deck) if given.log is None else given.log
     return Comparison(Replayed(proved, deck, log, Path(given.save or f"{folder}/deck")), emulator)
 

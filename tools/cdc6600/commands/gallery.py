@@ -1,7 +1,7 @@
 """Writes a page for each session into a folder, as `tools/timeline --html` does, and a page index.html that leads to
 them. If none is named, they are the sessions of decks/sessions, and the pages say what each one shows, as
 decks/README.md has it. A file that is a deck without a schedule gets the schedule of `tools/schedule`, and its page has
-a column for each minor cycle. CDC6600 may name the program to ask.
+a column for each minor cycle. Only pages of this tool are written over. CDC6600 may name the program to ask.
 """
 
 import argparse
@@ -10,11 +10,12 @@ from pathlib import Path
 
 from cdc6600.drawing.following import Fault, Following, Session, text_of
 from cdc6600.drawing.forms import check_columns
-from cdc6600.drawing.index import Entry, index, links
+from cdc6600.drawing.index import NAVIGATION, TITLE, Entry, index, links
 from cdc6600.drawing.page import Page
 from cdc6600.shared.decks import sessions, shown_by_sessions
 from cdc6600.shared.ending import ended
 from cdc6600.shared.program import Program
+from cdc6600.shared.writing import put, why_not_written
 from cdc6600.timing.scheduling import Schedule
 from cdc6600.timing.times import Times, read_times
 
@@ -31,13 +32,24 @@ def arguments():
     return parser.parse_args()
 
 
-def write(folder, name, text):
-    """Writes a page."""
+def is_page(file):
+    """Whether a file is a page of this tool."""
+    text = Path(file).read_bytes()
+    return any(mark.encode() in text for mark in (NAVIGATION, TITLE))
+
+
+def write(folder, pages):
+    """Writes pages, by their names. None is written if one of them would be written over another file."""
     try:
         folder.mkdir(parents=True, exist_ok=True)
-        (folder / name).write_text(text, encoding="utf-8")
+        for name in pages:
+            why_not = why_not_written(folder / name, is_page)
+            if why_not:
+                raise Fault(folder / name, why_not)
+        for name, text in pages.items():
+            put(folder / name, text.encode())
     except OSError as fault:
-        raise Fault(folder / name, fault.strerror) from None
+        raise Fault(fault.filename or folder, fault.strerror) from None
 
 
 @dataclass(frozen=True)
@@ -96,6 +108,10 @@ def work():
         page = Page(it.following, it.name, it.says, links(names, it.name), it.times)
         write(folder, f"{it.name}.html", page.text())
     write(folder, f"{INDEX}.html", index([Entry(it.name, it.says, it.following) for it in found]))
+@@@    pages = {f"{it.name}.html": Page(it.following, it.name, it.says, links(names, it.name), it.cycles).text()
+             for it in found}
+    pages[f"{INDEX}.html"] = index([Entry(it.name, it.says, it.following) for it in found])
+    write(folder, pages)
     return 0
 
 

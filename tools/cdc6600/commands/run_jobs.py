@@ -5,10 +5,12 @@ Of the deck NAME.deck, or the source program NAME.source, FOLDER gets
     NAME.dump      what the run prints, if it came to its end
     NAME.told      what it writes to standard error, if that is anything
     NAME.status    its exit status
-    NAME.job       what the result depends on: a checksum of the deck, the words of the run, and the path of the deck
+    NAME.job       what the result depends on: checksums of the deck and of the program, the words of the run, and the
+                   path of the deck
 
 A job is done if its status is 0, 1, 3, 4 or 5: another run would have the same status. A job that is done isn't run
-again, unless its deck or the words of its run have changed. The words in a file NAME.arguments beside the deck are
+again, unless its deck, the words of its run or the program have changed. A run without a dump, or with status 1 and no
+fault line, leaves no status. The words in a file NAME.arguments beside the deck are
 further arguments of its run.
 
 The dump is written as NAME.dump.part and renamed, and the status is written last. Each job has a lock, so several calls

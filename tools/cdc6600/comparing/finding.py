@@ -4,6 +4,8 @@ import time
 from dataclasses import dataclass
 from functools import cached_property
 
+from cdc6600.shared.writing import put
+
 from .dumps import Dump
 from .faults import Failure, Slow
 from .steps import Steps
@@ -61,7 +63,7 @@ class Replayed:
         Raises BadInput where the program refuses the log."""
         self.proved, self.given, self.file = proved, given, file
         self.whole, self.steps, self.kept = proved.dump(given, log), Steps(log), {}
-        file.write_bytes(given.text)
+        put(file, given.text)
 
     def dump(self, count):
         """The dump after so many steps."""

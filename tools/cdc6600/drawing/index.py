@@ -9,6 +9,10 @@ from urllib.parse import quote
 from .following import Following
 from .page import marked_up, read
 
+# What the page of a session begins its links with, and what the page that leads to all of them has.
+NAVIGATION = '<nav class="links" aria-label="Sessions"><a href="index.html">All sessions</a>'
+TITLE = "<title>Sessions of the Control Data 6600</title>"
+
 
 @dataclass(frozen=True)
 class Entry:
@@ -56,4 +60,4 @@ def links(names, name):
     at = names.index(name)
     around = [("Before", names[at - 1]) if at else None, ("After", names[at + 1]) if at + 1 < len(names) else None]
     found = "".join(f"{link(it[1], f'{it[0]}: {it[1]}')}\n" for it in around if it)
-    return f'<nav class="links" aria-label="Sessions"><a href="index.html">All sessions</a>\n{found}</nav>\n'
+    return f"{NAVIGATION}\n{found}</nav>\n"

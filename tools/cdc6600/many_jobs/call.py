@@ -14,7 +14,7 @@ from struct import Struct
 
 from cdc6600.shared.ending import refused
 
-from .job import FINAL, Fault, Unread
+from .job import FINAL, Fault, Unread, sum_of
 from .signals import hold_signals, let_signals_in, waiting
 
 NUMBER = Struct("=I")
@@ -27,7 +27,7 @@ class Worker:
 
     def __init__(self, program, jobs, tasks, reports):
         self.program, self.jobs, self.tasks, self.reports = program, jobs, tasks, reports
-        self.environment = dict(os.environb)
+        self.program_sum, self.environment = sum_of(program), dict(os.environb)
 
     def work(self):
         """Runs jobs until there are no more. A job that another call runs is looked at again at the end: then the
@@ -50,7 +50,7 @@ class Worker:
         try:
             if not job.take_lock(waits):
                 return False
-            is_run = job.run(self.program, self.environment)
+            is_run = job.run(self.program, self.program_sum, self.environment)
             self.report(number, job.status, is_run, job.said)
         except Unread as fault:
             self.report(number, None, False, str(fault))

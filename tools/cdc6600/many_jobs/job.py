@@ -13,8 +13,8 @@ from .signals import waiting
 
 # The statuses that another run would have too. Such a job is done.
 FINAL = (0, 1, 3, 4, 5)
-# The statuses with which a run prints a dump.
-WITH_DUMP = (0, 3, 4, 5)
+# The statuses with which a run prints a dump, and how that begins; and how it begins the line for a refused deck.
+WITH_DUMP, DUMP, FAULT = (0, 3, 4, 5), b"P ", b"cdc6600: "
 SEQUENTIAL = b"--sequential"
 # Python ignores these signals; the program has to get them.
 RESTORED = (signal.SIGPIPE, signal.SIGXFSZ)
@@ -43,6 +43,18 @@ def content_if_there(path):
             return file.readall()
     except FileNotFoundError:
         return None
+
+
+def begins_with(path, text):
+    """Whether a file begins with a text."""
+    with open(path, "rb", buffering=0) as file:
+        return file.read(len(text)) == text
+
+
+def sum_of(path):
+    """The checksum of a file, in digits."""
+    with open(path, "rb") as file:
+        return hashlib.file_digest(file, "sha256").hexdigest().encode()
 
 
 def remove(path):
@@ -119,9 +131,10 @@ class Job:
         """The path of the deck from the folder on, which stays true if both are moved together."""
         return os.path.relpath(os.path.abspath(self.deck), os.path.realpath(self.folder))
 
-    def result_key(self, words):
-        """What a result depends on, in two lines: the content of the deck, and the words of the run."""
-        return b"%s\n%s\n" % (hashlib.sha256(content_of(self.input)).hexdigest().encode(), b" ".join(words))
+    def result_key(self, words, program_sum):
+        """What a result depends on, in two lines: the deck and the program, and the words of the run."""
+        deck_sum = hashlib.sha256(content_of(self.input)).hexdigest().encode()
+        return b"%s %s\n%s\n" % (deck_sum, program_sum, b" ".join(words))
 
     def refuse_other_deck(self, path):
         """Raises Fault if another deck, by its path from the folder on, is still there."""
@@ -151,13 +164,13 @@ class Job:
             raise Unread(f"{path}: a null character")
         return [b"run", *[SEQUENTIAL] * (self.is_sequential and SEQUENTIAL not in words), *words]
 
-    def run(self, program, environment):
+    def run(self, program, program_sum, environment):
         """Runs a locked job, unless it is done; whether it was run.
 
         Raises Unread if the deck can't be read, and Fault if the files have the result of another deck."""
         words, path = self.words(), self.path()
         try:
-            key = self.result_key(words)
+            key = self.result_key(words, program_sum)
         except OSError as fault:
             raise Unread(fault.strerror) from None
         record = content_of(self.lock)
@@ -199,12 +212,18 @@ class Job:
         return code if code >= 0 else 128 - code
 
     def end(self, status):
-        """Keeps the result of a run that has ended with this status."""
+        """Keeps the result of a run that has ended with this status. If that isn't what this program does, there is no
+        status."""
         told = content_of(self.told)
-        if status in WITH_DUMP:
-            os.rename(self.file("dump.part"), self.file("dump"))
+        is_dump = begins_with(self.file("dump.part"), DUMP)
         if told:
             write(self.file("told"), told)
+        if status in FINAL and not (is_dump if status in WITH_DUMP else told.startswith(FAULT)):
+            missing = "prints no dump" if status in WITH_DUMP else "tells no fault"
+            self.said = f"the program ends with status {status} and {missing}"
+            return
+        if status in WITH_DUMP:
+            os.rename(self.file("dump.part"), self.file("dump"))
         write(self.file("status"), b"%d\n" % status)
         self.status, self.said = status, told.decode(errors="replace").partition("\n")[0]
 

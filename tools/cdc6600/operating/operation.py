@@ -1,6 +1,5 @@
 """A machine that is driven by hand: the events made so far, with their answers, states and words."""
 
-import errno
 import os
 import re
 from dataclasses import dataclass
@@ -12,6 +11,7 @@ from cdc6600.drawing.states import RUNNING, State
 from cdc6600.drawing.telling import plural, reservation
 from cdc6600.drawing.values import value_lines, values_of
 from cdc6600.drawing.words import Words
+from cdc6600.shared.writing import put, why_not_written
 
 from .conversation import Conversation
 
@@ -29,7 +29,7 @@ class Offer:
 
 
 def identity(file):
-    """What tells a file from others, and a link from the file that it leads to."""
+    """What tells a file from others."""
     found = os.lstat(file)
     return found.st_dev, found.st_ino
 
@@ -200,10 +200,9 @@ class Operation:
         """Raises Fault where a file is there that this operation hasn't written, or it would stand in no folder."""
         if Path(file).exists() and Path(file).samefile(self.file):
             raise Fault(file, "it is the deck itself, and isn't written over")
-        if os.path.lexists(file) and identity(file) != self.written:
-            raise Fault(file, "it is there already, and isn't written over")
-        if not Path(file).parent.is_dir():
-            raise Fault(file, os.strerror(errno.ENOENT))
+        why_not = why_not_written(file, lambda it: identity(it) == self.written)
+        if why_not:
+            raise Fault(file, why_not)
 
     def save(self, file):
         """Writes the deck and the events as a session. Raises Fault where that can't be done."""
@@ -211,9 +210,7 @@ class Operation:
         events = self.events if self.is_over else [*self.events, "end"]
         text = (self.deck + "".join(f"{event}\n" for event in events)).encode("latin-1")
         try:
-            # What nobody has written yet is made anew, and never through a link.
-            with open(file, "wb" if os.path.lexists(file) else "xb") as target:
-                target.write(text)
+            put(file, text)
             self.saved, self.written = list(self.events), identity(file)
         except OSError as fault:
             raise Fault(file, fault.strerror) from None
