@@ -287,7 +287,25 @@ def faults_of_tools(tried):
     faults = unlike("compare", ran("compare", *limit, tried.plain, DECK), agree)
     faults += unlike("compare with the program", ran("compare", *limit, program, DECK), agree)
     counts = Ran(0, f"{len(tried.stored)} decks of decks/ and 1 drawn ones: none differ\n".encode(), b"")
-    return faults + unlike("conformance", ran("conformance", *limit, "--random", "1", tried.plain), counts)
+    for many in ((), ("--jobs", "1")):
+        came = ran("conformance", *limit, *many, "--random", "1", tried.plain)
+        faults += unlike(f"conformance {' '.join(many)}", came, counts)
+    return faults + faults_of_jobs(tried)
+
+
+def faults_of_jobs(tried):
+    """What tools/conformance does otherwise than to take so many decks side by side as --jobs says."""
+    script, faults = tried.folder / "counted", []
+    # A call notes how many calls there are while it runs.
+    noted = 'cd "$1" || exit; mkdir $$; sleep 0.05; ls -d [0-9]* | wc -l >>calls; rmdir $$'
+    write_script(script, f'{noted}; exec {tried.plain} "$2"')
+    for many in ("1", "3"):
+        folder = tried.folder / f"side-by-side-{many}"
+        folder.mkdir()
+        ran("conformance", "--jobs", many, "--every", "100000", "--random", "0", f"{script} {folder}")
+        most = max(map(int, (folder / "calls").read_text(encoding="ascii").split()), default=0)
+        faults += [] if min(2, int(many)) <= most <= int(many) else [f"conformance --jobs {many}: {most} calls were made at once"]
+    return faults
 
 
 def faults_of_interrupt(tried, number):

@@ -27,7 +27,7 @@ import tempfile
 import time
 from pathlib import Path
 
-from cdc6600.comparing.arguments import MORE, SECONDS, count, number, seconds, seed, slope
+from cdc6600.comparing.arguments import MORE, SECONDS, count, jobs, number, seconds, seed, slope
 from cdc6600.comparing.coverage import Coverage, shown_by
 from cdc6600.comparing.emulator import Emulator
 from cdc6600.comparing.faults import Failure, ended
@@ -47,6 +47,7 @@ def arguments():
     add("--every", metavar="N", type=count, help="compare after each N steps instead of the usual ones")
     add("--seconds", metavar="S", type=seconds, default=SECONDS, help=f"how long a call may take, or {SECONDS}")
     add("--more", metavar="S", type=slope, default=MORE, help=f"how much longer for each million steps, or {MORE}")
+    add("--jobs", metavar="N", type=jobs, help="take at most N decks side by side")
     add("--all", action="store_true", help="print a line for each deck that differs, not for each group")
     add("--json", action="store_true", help="print the whole result as JSON instead of lines")
     add("--junit", metavar="FILE", help="write the result to FILE too, as the XML of JUnit")
@@ -71,7 +72,7 @@ def results_of(given, folder):
     Raises Failure where it prints no dump of a booted machine."""
     begun, emulator = time.monotonic(), Emulator(given.command, given.seconds, given.more)
     stored, drawn = cases_of(given)
-    suite = Suite(emulator, folder, given.every)
+    suite = Suite(emulator, folder, given.every, given.jobs)
     suite.check(stored[0])
     results = suite.results(stored + drawn)
     return Results(results, len(stored), emulator.calls, time.monotonic() - begun)

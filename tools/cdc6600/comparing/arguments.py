@@ -29,6 +29,13 @@ def count(word):
     return int(word)
 
 
+def jobs(word):
+    """A number of decks that are taken side by side, at least 1."""
+    if not number(word, 3):
+        raise argparse.ArgumentTypeError(f"{word} is no number above 0")
+    return int(word)
+
+
 def seed(word):
     """A number from which a deck is drawn."""
     return number(word, 18)

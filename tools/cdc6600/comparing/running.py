@@ -28,10 +28,11 @@ class Progress:
 
 class Suite:
     """An emulator that is taken through cases, each with its files in a folder. Dumps are compared after each `every`
-    steps, or after the usual numbers of steps if that is None."""
+    steps, or after the usual numbers of steps if that is None. At most `jobs` cases are taken side by side, or if that
+    is None a few more than there are processors."""
 
-    def __init__(self, emulator, folder, every=None):
-        self.emulator, self.folder, self.every, self.proved = emulator, folder, every, Proved()
+    def __init__(self, emulator, folder, every=None, jobs=None):
+        self.emulator, self.folder, self.every, self.jobs, self.proved = emulator, folder, every, jobs, Proved()
 
     def points(self, whole):
         """The numbers of steps after which a log of `whole` steps is compared."""
@@ -65,7 +66,7 @@ class Suite:
 
     def results(self, cases):
         """What comes of each case, in their order. The last ones are begun first, since drawn decks take longest."""
-        pool, progress = ThreadPoolExecutor(), Progress()
+        pool, progress = ThreadPoolExecutor(self.jobs), Progress()
         try:
             works = [pool.submit(self.result, case) for case in reversed(cases)][::-1]
             waiting = set(works)
