@@ -25,7 +25,7 @@ import subprocess
 import termios
 import time
 from concurrent.futures import ThreadPoolExecutor
-from contextlib import ExitStack, closing, suppress
+from contextlib import ExitStack, closing, contextmanager, suppress
 from dataclasses import dataclass
 
 from cdc6600.shared.decks import deck, session
@@ -174,15 +174,32 @@ def short_run():
     return wait_until(tried, f"a short run that takes less than {QUIET} seconds")[0]
 
 
+def begin_session():
+    """Makes the terminal that of the new session, in which an interrupt ends the run whatever this check inherited."""
+    fcntl.ioctl(1, termios.TIOCSCTTY, 0)
+    signal.signal(signal.SIGINT, signal.SIG_DFL)
+    signal.pthread_sigmask(signal.SIG_UNBLOCK, [signal.SIGINT])
+
+
+@contextmanager
+def ended_with(process):
+    """Kills a process at the end of what is done with it, if it hasn't ended."""
+    try:
+        yield
+    finally:
+        if process.poll() is None:
+            process.kill()
+
+
 def interrupted_run():
     """A run at a terminal that Ctrl-C ends while it shows its seconds; the faults. The line can still be read, behind
     the `^C` of the terminal, and the terminal is as before."""
     ours, its = pty.openpty()
     before, shown = termios.tcgetattr(its), bytearray()
     with closing(os.fdopen(ours, "r+b", buffering=0)) as terminal:
-        controls = {"start_new_session": True, "preexec_fn": lambda: fcntl.ioctl(1, termios.TIOCSCTTY, 0)}
+        controls = {"start_new_session": True, "preexec_fn": begin_session}
         run = subprocess.Popen([program_path(), "run"], stdin=subprocess.PIPE, stdout=its, stderr=its, **controls)
-        with run:
+        with run, ended_with(run):
             run.stdin.write(DECK)
             run.stdin.flush()
 
@@ -194,7 +211,11 @@ def interrupted_run():
             wait_until(lambda: has_shown(line_of(FIRST)), lambda: f"an interrupted run to show {FIRST} s: {shown!r}")
             terminal.write(b"\x03")
             wait_until(lambda: has_shown(b"^C"), lambda: f"the ^C of an interrupted run: {shown!r}")
-            status = wait_until(run.poll, "the end of an interrupted run")
+            # A run that goes on shows further seconds, and could wait for a terminal that nobody reads.
+            wait_until(
+                lambda: has_shown(b"") and run.poll() is not None, lambda: f"the end of an interrupted run: {shown!r}"
+            )
+            status = run.returncode
         after = termios.tcgetattr(its)
         os.close(its)
     if status != -signal.SIGINT or after != before or not re.fullmatch(rb"(   cdc6600: \d+ s\r)+\^C", shown):
