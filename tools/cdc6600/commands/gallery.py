@@ -104,11 +104,7 @@ def work():
     folder, times = Path(given.folder), read_times(given.times)
     found = [named(program, file, times) for file in given.files] if given.files else stored(program)
     names = [it.name for it in found]
-    for it in found:
-        page = Page(it.following, it.name, it.says, links(names, it.name), it.times)
-        write(folder, f"{it.name}.html", page.text())
-    write(folder, f"{INDEX}.html", index([Entry(it.name, it.says, it.following) for it in found]))
-@@@    pages = {f"{it.name}.html": Page(it.following, it.name, it.says, links(names, it.name), it.cycles).text()
+    pages = {f"{it.name}.html": Page(it.following, it.name, it.says, links(names, it.name), it.times).text()
              for it in found}
     pages[f"{INDEX}.html"] = index([Entry(it.name, it.says, it.following) for it in found])
     write(folder, pages)
