@@ -7,6 +7,8 @@
 Each run has to end soon. One to which something is refused has a status that isn't 0, and one line on standard error,
 which begins with the name of the tool.
 
+A name or a text with an escape character is shown with its code instead.
+
 A session with four times as many events is drawn as text in about four times the time of the processor, and never in
 nine times. One with more events than a picture has room for is refused as a picture and as pages.
 
@@ -16,6 +18,7 @@ Run it after a change of `tools/cdc6600/shared`, of `tools/cdc6600/many_jobs`, o
 """
 
 import os
+import re
 import resource
 import signal
 import subprocess
@@ -29,9 +32,9 @@ from typing import NamedTuple
 
 from cdc6600.drawing.following import Following, Session
 from cdc6600.drawing.forms import MOST_COLUMNS, Form
-from cdc6600.shared.decks import FIRST, RUN, SESSIONS
+from cdc6600.shared.decks import FIRST, RUN, SESSIONS, session
 from cdc6600.shared.program import ROOT, Program, Ran, tell
-from cdc6600.shared.waiting import Missing, faults_found, finish, input_of
+from cdc6600.shared.waiting import Missing, faults_found, finish, input_of, run
 
 from .refused_starts import PROCESS, THREAD
 
@@ -49,6 +52,7 @@ exec "$PROGRAM" "$@"
 LONG, MOST_TIMES = (2000, 8000), 9
 OF_LONG_ADD, PASSES = ("issue", "read longadd", "finish longadd", "store longadd"), "46000" * 4
 SESSION_BEGIN = "core 256\nstart 40\nend\nask 40\nexchange\n"
+ESCAPE = "\x1b[31m"
 SESSION, DECK = str(SESSIONS / "conflicts.session"), str(FIRST)
 
 
@@ -106,10 +110,10 @@ def ended(tool, words, program, **how):
     return Run(process.returncode, told.decode(errors="replace").splitlines())
 
 
-def faults_of_end(what, tool, run):
+def faults_of_end(what, tool, came):
     """What is wrong with the end of a run to which something was refused."""
-    is_told = len(run.told) == 1 and f"tools/{tool.name}: " in run.told[0]
-    return [] if run.status and is_told else [f"{tool.shown}, {what}: status {run.status}, told {run.told[-4:]}"]
+    is_told = len(came.told) == 1 and f"tools/{tool.name}: " in came.told[0]
+    return [] if came.status and is_told else [f"{tool.shown}, {what}: status {came.status}, told {came.told[-4:]}"]
 
 
 def places():
@@ -121,11 +125,11 @@ def faults_of_starts(tool, kind, folder, program):
     """Refuses a tool each start of a kind in turn; the faults."""
     faults, mark = [], folder / "refused"
     for at in places():
-        run = ended(tool, [*HARNESS, kind, str(at), mark, ROOT / f"tools/{tool.name}", *tool.words], program)
+        came = ended(tool, [*HARNESS, kind, str(at), mark, ROOT / f"tools/{tool.name}", *tool.words], program)
         if not mark.exists():
             return faults
         mark.unlink()
-        faults += faults_of_end(f"{kind} {at} refused", tool, run)
+        faults += faults_of_end(f"{kind} {at} refused", tool, came)
 
 
 def faults_of_memory(tool, folder, program):
@@ -135,10 +139,10 @@ def faults_of_memory(tool, folder, program):
     wrapper.chmod(0o755)
     for most in accumulate(count(), lambda most, _: most + most // 50, initial=LEAST_MEMORY):
         limited = {"preexec_fn": lambda most=most: resource.setrlimit(resource.RLIMIT_AS, (most, -1))}
-        run = ended(tool, [ROOT / f"tools/{tool.name}", *tool.words], wrapper, **limited)
-        if not run.status:
+        came = ended(tool, [ROOT / f"tools/{tool.name}", *tool.words], wrapper, **limited)
+        if not came.status:
             return faults
-        faults += faults_of_end(f"with {most} bytes of memory", tool, run)
+        faults += faults_of_end(f"with {most} bytes of memory", tool, came)
         if most > MOST_MEMORY:
             return [*faults, f"{tool.shown}: {most} bytes of memory aren't enough"]
 
@@ -190,9 +194,29 @@ def faults_of_long_sessions(folder):
     file.write_text(session_of(MOST_COLUMNS)[0], encoding="utf-8")
     for name, *words in (("timeline", "--svg"), ("timeline", "--html"), ("gallery", f"{folder}/long")):
         tool = Tool(name, (*words, str(file)))
-        run = ended(tool, [ROOT / f"tools/{name}", *tool.words], os.environ.get("CDC6600", ""))
-        faults += faults_of_end("too many events", tool, run)
-        faults += [] if str(MOST_COLUMNS) in "".join(run.told) else [f"{tool.shown}: the limit isn't told: {run.told}"]
+        came = ended(tool, [ROOT / f"tools/{name}", *tool.words], os.environ.get("CDC6600", ""))
+        faults += faults_of_end("too many events", tool, came)
+        is_told = str(MOST_COLUMNS) in "".join(came.told)
+        faults += [] if is_told else [f"{tool.shown}: the limit isn't told: {came.told}"]
+    return faults
+
+
+def faults_of_escapes(folder):
+    """Gives the tools names and texts with an escape character, which no terminal may get; the faults."""
+    missing, source, answers = f"{folder}/{ESCAPE}", folder / "escape.source", folder / "escape.answers"
+    source.write_text(f"START  PS   {ESCAPE}\n", encoding="ascii")
+    stored = session("conflicts").answers.decode()
+    answers.write_text(re.sub("^(E7 .*)$", rf"\1{ESCAPE}", stored, flags=re.MULTILINE), encoding="ascii")
+    calls = [(name, missing) for name in ("timeline", "beside", "schedule", "explore", "operate", "trace", "assemble")]
+    calls += [("gallery", f"{folder}/none", missing), ("run-jobs", f"{folder}/none", missing)]
+    calls += [("compare", "false", missing), ("compare", f"false {ESCAPE}", DECK), ("timeline", SESSION, "2", missing)]
+    calls += [("assemble", "--listing", str(source)), ("timeline", SESSION, str(answers))]
+    faults = []
+    for name, *words in calls:
+        ran = run([ROOT / f"tools/{name}", *words], MINUTES, capture_output=True)
+        is_shown = ESCAPE.encode() in ran.stdout + ran.stderr
+        is_told = b"\\x1b" in ran.stdout + ran.stderr
+        faults += [f"tools/{name} {words}: {ran}"] if is_shown or not is_told else []
     return faults
 
 
@@ -202,5 +226,5 @@ def main():
         works = [lambda it=it, kind=kind: faults_of_starts(it, kind, Path(room), program)
                  for it in tools(room) for kind in (PROCESS, THREAD)]
         works += [lambda it=it: faults_of_memory(it, Path(room), program) for it in tools(room)]
-        works.append(lambda: faults_of_long_sessions(Path(room)))
+        works += [lambda: faults_of_long_sessions(Path(room)), lambda: faults_of_escapes(Path(room))]
         return tell([fault for work in works for fault in faults_found(work)])

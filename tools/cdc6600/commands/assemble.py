@@ -10,17 +10,17 @@ Of a source with faults it prints nothing on standard output, and on standard er
 The status is 0, or 1 if the source has faults, or 2 if it can't be read or the command line is refused.
 """
 
-import argparse
 import sys
 
 from cdc6600.assembling.output import deck_of, listing_of
 from cdc6600.assembling.sources import read_source
 from cdc6600.comparing.arguments import STANDARD_INPUT, bytes_of, standard_input
 from cdc6600.comparing.faults import ended
+from cdc6600.shared.ending import Parser, printable
 
 
 def arguments():
-    parser = argparse.ArgumentParser(description=__doc__, formatter_class=argparse.RawDescriptionHelpFormatter)
+    parser = Parser(__doc__)
     parser.add_argument("--listing", action="store_true", help="print addresses, words and source side by side")
     parser.add_argument("source", metavar="FILE", help="a file with a source program, or - for standard input")
     return parser.parse_args()
@@ -32,10 +32,10 @@ def work():
     text = standard_input() if is_standard else bytes_of(given.source)
     program, settings = read_source("standard input" if is_standard else given.source, text)
     if program.faults.lines:
-        print("\n".join(program.faults.lines), file=sys.stderr)
+        print("\n".join(map(printable, program.faults.lines)), file=sys.stderr)
         return 1
     lines = listing_of(program) if given.listing else deck_of(program, settings)
-    print("\n".join(lines))
+    print("\n".join(map(printable, lines)))
     return 0
 
 

@@ -16,7 +16,7 @@ from cdc6600.drawing.following import Fault, Following, Session, text_of
 from cdc6600.drawing.judging import states_of
 from cdc6600.drawing.values import all_values, value_lines
 from cdc6600.shared.decks import session
-from cdc6600.shared.ending import ended
+from cdc6600.shared.ending import Parser, ended, printable
 from cdc6600.shared.program import Program
 
 
@@ -29,7 +29,7 @@ def events(text):
 
 
 def arguments():
-    parser = argparse.ArgumentParser(description=__doc__, formatter_class=argparse.RawDescriptionHelpFormatter)
+    parser = Parser(__doc__)
     parser.add_argument("--values", action="store_true", help="print the values after each event")
     parser.add_argument("name", metavar="SESSION",
                         help="a session of decks/sessions without the ending .session, or a file with a session")
@@ -69,6 +69,7 @@ def work():
     for number, (line, answer, block) in enumerate(lines, 1):
         if given.events and not any(min(number, len(schedule)) in span for span in given.events):
             continue
+        line = printable(line)
         print(f"{line:<19}{answer}" if answer or not line else line)
         sys.stdout.write(block)
     sys.stderr.buffer.write(ran.told)

@@ -16,8 +16,6 @@ The status is 0 where nothing differs, 1 where something does or the command giv
 name the program to ask.
 """
 
-import argparse
-import sys
 import tempfile
 from pathlib import Path
 
@@ -28,11 +26,12 @@ from cdc6600.comparing.finding import Comparison, Replayed
 from cdc6600.comparing.proved import Given, Proved
 from cdc6600.comparing.reports import Report
 from cdc6600.comparing.steps import points_every
+from cdc6600.shared.ending import Parser, printable, tell
 from cdc6600.shared.writing import why_not_written
 
 
 def arguments():
-    parser = argparse.ArgumentParser(description=__doc__, formatter_class=argparse.RawDescriptionHelpFormatter)
+    parser = Parser(__doc__)
     parser.add_argument("--every", metavar="N", type=count, help="compare after each N steps too, not only at the end")
     parser.add_argument("--seconds", metavar="S", type=seconds, default=SECONDS, help="how long a call may take")
     parser.add_argument("--more", metavar="S", type=slope, default=MORE, help="how much longer for each million steps")
@@ -63,12 +62,13 @@ def work():
     if not report:
         often = "each step" if given.every == 1 else f"every {given.every} steps"
         on_the_way = f", and after {often} on the way" if given.every else ""
-        print(f"{given.deck}: the dumps agree after all {len(comparison.steps)} steps of the log{on_the_way}")
+        name = printable(given.deck)
+        print(f"{name}: the dumps agree after all {len(comparison.steps)} steps of the log{on_the_way}")
         return 0
     if found.outcome.failure:
-        print(f"tools/compare: {given.deck}: {report.line}", file=sys.stderr)
+        tell("tools/compare", f"{given.deck}: {report.line}")
     else:
-        print("\n".join(report.lines))
+        print("\n".join(map(printable, report.lines)))
     return 1
 
 

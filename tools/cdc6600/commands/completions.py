@@ -6,15 +6,14 @@
 tools/install installs the scripts for all three shells, where these look for them.
 """
 
-import argparse
 import sys
 
 from cdc6600.installing.completions import SHELLS
-from cdc6600.shared.ending import ended
+from cdc6600.shared.ending import Parser, ended
 
 
 def arguments():
-    parser = argparse.ArgumentParser(description=__doc__, formatter_class=argparse.RawDescriptionHelpFormatter)
+    parser = Parser(__doc__)
     parser.add_argument("shell", metavar="SHELL", choices=SHELLS, help="bash, zsh or fish")
     return parser.parse_args()
 

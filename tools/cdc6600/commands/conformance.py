@@ -21,8 +21,6 @@ The status is 0 if nothing differs, 1 if something does or COMMAND prints no dum
 nothing differs but COMMAND is too slow on some deck. CDC6600 may name the program to ask.
 """
 
-import argparse
-import sys
 import tempfile
 import time
 from pathlib import Path
@@ -35,12 +33,13 @@ from cdc6600.comparing.proved import Proved
 from cdc6600.comparing.results import SOME_DIFFER, Results
 from cdc6600.comparing.running import Progress, Suite
 from cdc6600.comparing.suites import drawn_cases, stored_cases
+from cdc6600.shared.ending import Parser, printable, tell
 
 RANDOM = 20
 
 
 def arguments():
-    parser = argparse.ArgumentParser(description=__doc__, formatter_class=argparse.RawDescriptionHelpFormatter)
+    parser = Parser(__doc__)
     add = parser.add_argument
     add("--random", metavar="N", type=number, default=RANDOM, help=f"how many drawn decks, or {RANDOM}")
     add("--first", metavar="SEED", type=seed, default=1, help="the seed of the first drawn deck, or 1")
@@ -101,11 +100,11 @@ def work():
         try:
             results = results_of(given, folder)
         except Failure as failure:
-            print(f"tools/conformance: {failure}", file=sys.stderr)
+            tell("tools/conformance", failure)
             return SOME_DIFFER
     if given.junit is not None:
         Path(given.junit).write_bytes(results.as_junit(given.command))
-    print(results.as_json(given.command) if given.json else "\n".join(results.lines(given.all)))
+    print(results.as_json(given.command) if given.json else "\n".join(map(printable, results.lines(given.all))))
     return results.status
 
 

@@ -16,7 +16,7 @@ from pathlib import Path
 
 from cdc6600.comparing.arguments import number
 from cdc6600.drawing.following import Fault, Session, text_of
-from cdc6600.shared.ending import ended
+from cdc6600.shared.ending import Parser, ended
 from cdc6600.shared.program import Program
 from cdc6600.timing.confirming import Confirmation
 from cdc6600.timing.exploring import Exploration
@@ -36,7 +36,7 @@ def count(word):
 
 
 def arguments():
-    parser = argparse.ArgumentParser(description=__doc__, formatter_class=argparse.RawDescriptionHelpFormatter)
+    parser = Parser(__doc__)
     form = parser.add_mutually_exclusive_group()
     form.add_argument("--html", action="store_true", help="write a page with the graph of states")
     form.add_argument("--session", choices=("shortest", "longest"), help="print a schedule of this kind as a session")

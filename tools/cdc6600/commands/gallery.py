@@ -4,7 +4,6 @@ decks/README.md has it. A file that is a deck without a schedule gets the schedu
 a column for each minor cycle. Only pages of this tool are written over. CDC6600 may name the program to ask.
 """
 
-import argparse
 from dataclasses import dataclass
 from pathlib import Path
 
@@ -13,7 +12,7 @@ from cdc6600.drawing.forms import check_columns
 from cdc6600.drawing.index import NAVIGATION, TITLE, Entry, index, links
 from cdc6600.drawing.page import Page
 from cdc6600.shared.decks import sessions, shown_by_sessions
-from cdc6600.shared.ending import ended
+from cdc6600.shared.ending import Parser, ended
 from cdc6600.shared.program import Program
 from cdc6600.shared.writing import put, why_not_written
 from cdc6600.timing.scheduling import Schedule
@@ -23,7 +22,7 @@ INDEX = "index"
 
 
 def arguments():
-    parser = argparse.ArgumentParser(description=__doc__, formatter_class=argparse.RawDescriptionHelpFormatter)
+    parser = Parser(__doc__)
     parser.add_argument("folder", metavar="FOLDER", help="where the pages are written; it is made if it isn't there")
     parser.add_argument("files", metavar="SESSION", nargs="*", default=[],
                         help="a session, or a deck or source program NAME.source to be scheduled")

@@ -4,7 +4,6 @@ With --save the session is written to a file at the end; `save FILE` writes it a
 the deck, its events are made first. docs/use/tools.md has an example. CDC6600 may name the program to ask.
 """
 
-import argparse
 import curses
 import os
 import signal
@@ -16,12 +15,12 @@ from cdc6600.operating.commands import Commands
 from cdc6600.operating.operation import Operation
 from cdc6600.operating.plain import Plain
 from cdc6600.operating.screen import LINES, Screen
-from cdc6600.shared.ending import ended
+from cdc6600.shared.ending import Parser, ended
 from cdc6600.shared.program import Program
 
 
 def arguments():
-    parser = argparse.ArgumentParser(description=__doc__, formatter_class=argparse.RawDescriptionHelpFormatter)
+    parser = Parser(__doc__)
     parser.add_argument("--plain", action="store_true", help="write and read lines, and leave the terminal as it is")
     parser.add_argument("--save", metavar="FILE", help="where the session is written at the end")
     parser.add_argument("deck", metavar="DECK",

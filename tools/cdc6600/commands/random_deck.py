@@ -5,16 +5,16 @@ multiples of six are of registers, the next ones of references, and so on. --kin
 about a hundred to some thousands of instructions. docs/use/emulators.md says what each kind has.
 """
 
-import argparse
 import sys
 
 from cdc6600.comparing.arguments import seed
 from cdc6600.comparing.faults import ended
 from cdc6600.random_decks.kinds import KINDS, drawn_deck
+from cdc6600.shared.ending import Parser
 
 
 def arguments():
-    parser = argparse.ArgumentParser(description=__doc__, formatter_class=argparse.RawDescriptionHelpFormatter)
+    parser = Parser(__doc__)
     parser.add_argument("--kind", choices=KINDS, help="the kind of program")
     parser.add_argument("seed", metavar="SEED", type=seed, help="a number of up to 18 decimal digits")
     return parser.parse_args()

@@ -35,7 +35,7 @@ import time
 from cdc6600.many_jobs.call import Call, line_of
 from cdc6600.many_jobs.job import Fault, Job, clash
 from cdc6600.many_jobs.signals import end_by_signals
-from cdc6600.shared.ending import ended
+from cdc6600.shared.ending import ended, printable
 from cdc6600.shared.program import BUILT, named_program
 
 NAME, REFUSED, STANDARD_ERROR = "tools/run-jobs", 255, 2
@@ -48,7 +48,7 @@ class Parser(argparse.ArgumentParser):
     a fault, which `argparse` itself ignores."""
 
     def error(self, message):
-        self.exit(REFUSED, f"{NAME}: {message}; {NAME} --help describes it\n")
+        self.exit(REFUSED, f"{NAME}: {printable(message)}; {NAME} --help describes it\n")
 
     def print_help(self, file=None):
         print(self.format_help(), end="", file=file)
@@ -63,7 +63,7 @@ class Report:
 
     def tell(self, line):
         """Writes a line to standard error, over the line of progress."""
-        sys.stderr.write(f"{self.cleared()}{NAME}: {line}\n")
+        sys.stderr.write(f"{self.cleared()}{NAME}: {printable(line)}\n")
 
     def cleared(self):
         """The characters that remove the line of progress."""

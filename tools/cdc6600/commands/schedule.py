@@ -20,7 +20,7 @@ import argparse
 from cdc6600.comparing.arguments import number
 from cdc6600.drawing.following import Fault, Session, text_of
 from cdc6600.limits import DEFAULT_BUDGET
-from cdc6600.shared.ending import ended
+from cdc6600.shared.ending import Parser, ended
 from cdc6600.shared.program import Program
 from cdc6600.timing.scheduling import POLICIES, TIMED, Schedule
 from cdc6600.timing.summary import put, summary
@@ -39,7 +39,7 @@ def budget(word):
 
 
 def arguments():
-    parser = argparse.ArgumentParser(description=__doc__, formatter_class=argparse.RawDescriptionHelpFormatter)
+    parser = Parser(__doc__)
     parser.add_argument("--policy", choices=POLICIES, default=TIMED, help=f"the order of events, {TIMED} by default")
     parser.add_argument("--times", metavar="FILE",
                         help="the file of times, tools/cdc6600/timing/thornton.times by default")

@@ -21,7 +21,6 @@ docs/use/tools.md explains the drawing; drawing/following.py follows the events,
 drawing/page.py writes the page, and timing/reservations.py has the table. CDC6600 may name the program to ask.
 """
 
-import argparse
 import sys
 from pathlib import Path
 
@@ -29,7 +28,7 @@ from cdc6600.drawing.comparison import Comparison
 from cdc6600.drawing.following import Fault, Following, Session, text_of
 from cdc6600.drawing.forms import Form, check_columns
 from cdc6600.drawing.page import Page
-from cdc6600.shared.ending import ended
+from cdc6600.shared.ending import Parser, ended
 from cdc6600.shared.program import Program
 from cdc6600.timing.clock import clocked
 from cdc6600.timing.reservations import as_json, as_text, rows_of
@@ -38,7 +37,7 @@ from cdc6600.timing.waits import Account
 
 
 def arguments():
-    parser = argparse.ArgumentParser(description=__doc__, formatter_class=argparse.RawDescriptionHelpFormatter)
+    parser = Parser(__doc__)
     form = parser.add_mutually_exclusive_group()
     form.add_argument("--svg", action="store_true", help="draw a picture")
     form.add_argument("--html", action="store_true", help="write a page that steps through the events")

@@ -22,13 +22,13 @@ The status is 0, or 2 for bad input. CDC6600 may name the program to ask.
 
 import argparse
 import re
-import sys
 
 from cdc6600.comparing.arguments import STANDARD_INPUT, deck_of, number, standard_input
 from cdc6600.comparing.faults import BadInput, ended
 from cdc6600.comparing.proved import Given, Proved
 from cdc6600.comparing.tracing import Trace
 from cdc6600.limits import MOST_INSTRUCTIONS
+from cdc6600.shared.ending import Parser, tell
 
 # How many steps are printed where nothing is said.
 MOST = 10_000
@@ -60,7 +60,7 @@ def span(word):
 
 
 def arguments():
-    parser = argparse.ArgumentParser(description=__doc__, formatter_class=argparse.RawDescriptionHelpFormatter)
+    parser = Parser(__doc__)
     parser.add_argument("--json", action="store_true", help="print a JSON object a line")
     parser.add_argument("--budget", metavar="N", type=budget, help="run the deck for at most N instructions")
     limits = parser.add_mutually_exclusive_group()
@@ -103,7 +103,7 @@ def work():
         print(line.json if given.json else line, flush=True)
     if not (given.first or given.last or given.steps) and last < total:
         note = f"the first {last} of {total} steps are printed; --steps A-B prints others"
-        print(f"tools/trace: {name}: {note}", file=sys.stderr)
+        tell("tools/trace", f"{name}: {note}")
     return 0
 
 

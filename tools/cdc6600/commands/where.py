@@ -26,15 +26,13 @@ Exit status:
   2    the command line is refused
 """
 
-import argparse
-import sys
 
 from cdc6600.rules.mentions import Rules
-from cdc6600.shared.ending import ended
+from cdc6600.shared.ending import Parser, ended, tell
 
 
 def arguments():
-    parser = argparse.ArgumentParser(description=__doc__, formatter_class=argparse.RawDescriptionHelpFormatter)
+    parser = Parser(__doc__)
     parser.add_argument("rule", metavar="RULE", help="the label of a refusal, or a word of a rule")
     given = parser.parse_args()
     if not given.rule.strip():
@@ -49,7 +47,7 @@ def work():
         near = rules.near(rule)
         hint = f"; near it: {', '.join(near)}" if near else ""
         told = f"{rule} is no refusal, and no rule of docs/proof/definitions.md has it{hint}"
-        print(f"tools/where: {told}", file=sys.stderr)
+        tell("tools/where", told)
         return 1
     blocks = ["\n".join([heading, *(f"  {mention}" for mention in found[heading])]) for heading in found]
     print("\n\n".join(blocks))

@@ -10,6 +10,7 @@ from functools import lru_cache
 from pathlib import Path
 
 from cdc6600.assembling.sources import Refused, as_deck
+from cdc6600.shared.ending import printable
 
 UNITS = "(?:branch|boolean|shift|add|longadd|multiply1|multiply2|divide|increment1|increment2)"
 EVENT = re.compile(
@@ -429,7 +430,7 @@ class Following:
 
 def noted(n, line, said):
     """A line for what is said of an event."""
-    return f"{n + 1:3d} {line:<17} {said}"
+    return f"{n + 1:3d} {line:<17} {printable(said)}"
 
 
 def plain(digits):

@@ -1,5 +1,6 @@
 """How a script ends, and what it tells then."""
 
+import argparse
 import errno
 import os
 import signal
@@ -32,8 +33,19 @@ def refused(fault):
 
 
 def printable(text):
-    """A text of one line, in which characters that a terminal wouldn't show as such are replaced by their codes."""
-    return "".join(it if it.isprintable() else it.encode("unicode_escape").decode() for it in text)
+    """A text of one line, in which characters that a terminal may obey are replaced by their codes, but for tabs."""
+    return "".join(it if it.isprintable() or it == "\t" else it.encode("unicode_escape").decode() for it in text)
+
+
+class Parser(argparse.ArgumentParser):
+    """A parser of arguments whose help text is the comment of its tool as it is written, and whose faults are
+    printable."""
+
+    def __init__(self, description):
+        super().__init__(description=description, formatter_class=argparse.RawDescriptionHelpFormatter)
+
+    def error(self, message):
+        super().error(printable(message))
 
 
 def tell(name, fault):

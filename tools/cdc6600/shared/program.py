@@ -7,7 +7,7 @@ import sys
 from pathlib import Path
 from typing import NamedTuple
 
-from .ending import why_not_started
+from .ending import printable, why_not_started
 from .waiting import MINUTES, Missing, finish, input_of
 
 ROOT = Path(__file__).resolve().parents[3]
@@ -79,7 +79,7 @@ class NoProgram(SystemExit):
 
     def __init__(self, path, what):
         self.line = f"{path}: {what}"
-        super().__init__(f"{sys.argv[0]}: {self.line}")
+        super().__init__(printable(f"{sys.argv[0]}: {self.line}"))
 
 
 class Program:
