@@ -51,6 +51,8 @@ BAD = (
     Bad(FROM_STEP_5.format("exit 1"), f"ends with status 1, {STEP_5}"),
 )
 
+# What is told of a file that a tool hasn't written.
+KEPT = "it is there already, and isn't written over"
 # The words of a call, what is told after the tool's name, and what is put into its environment.
 INPUTS = (
     (("compare", "nosuch", "decks/two-adds.deck"), "the command nosuch: No such file or directory", {}),
@@ -62,7 +64,7 @@ INPUTS = (
     (("compare", "cat", "decks/run/refused.deck"), "decks/run/refused.deck: E20 line 4: range", {}),
     (("compare", "cat", "decks/two-adds.deck", "I0"), "the log I0: bad log", {}),
     (("compare", "cat", "decks/two-adds.deck", "E777"), "the log E777: E19 package range", {}),
-    (("compare", "--save", "decks", "cat", "decks/two-adds.deck"), "decks: Is a directory", {}),
+    (("compare", "--save", "decks", "cat", "decks/two-adds.deck"), f"decks: {KEPT}", {}),
     (("compare", "cat", "decks/two-adds.deck"), "nosuch: No such file or directory", {"CDC6600": "nosuch"}),
     (("compare", "cat", "decks/two-adds.deck"), "/bin/true run: it prints no log", {"CDC6600": "/bin/true"}),
     (("compare", "cat", "decks/two-adds.deck"), "/bin/echo list: it prints no listing", {"CDC6600": "/bin/echo"}),

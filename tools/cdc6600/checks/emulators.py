@@ -68,7 +68,7 @@ HALT, TAKEN = "00", ("true", "false")
 BRANCHES = tuple(code for code in ROWS if code[:2] in ("03", "04", "05", "06", "07"))
 # The sum of the decks of the first ten seeds: the same on any machine, by any version of Python. A change of what is
 # drawn changes it.
-DECKS_SUM = "621cc7f4eb9b5339"
+DECKS_SUM = "383ba73addb5b762"
 # The faults of the copy are numbered from 1: those of planted.py first.
 CHANGES = (*PLANTED, *COVERED)
 NUMBERS = {fault: number for number, fault in enumerate((*CHANGES, *AT_EDGES), 1)}

@@ -38,7 +38,7 @@ COVERED = (
         "EQ Bi,Bj,K",
         "decks/run/signed-zeros.deck",
     ),
-    Covered("a mask of 0 is all ones", "jk.min(60)", "(if jk == 0 { 60 } else { jk.min(60) })", "MXi jk", 21),
+    Covered("a mask of 0 is all ones", "jk.min(60)", "(if jk == 0 { 60 } else { jk.min(60) })", "MXi jk", 60),
 )
 PLANTED = (
     Planted("the carry of a word is lost", "(total + ((total + 1) >> 60))", "total", r"IX"),

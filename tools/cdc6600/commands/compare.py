@@ -19,7 +19,7 @@ name the program to ask.
 import tempfile
 from pathlib import Path
 
-from cdc6600.comparing.arguments import MORE, SECONDS, count, deck_of, seconds, slope
+from cdc6600.comparing.arguments import MORE, SECONDS, bytes_of, count, deck_of, seconds, slope
 from cdc6600.comparing.emulator import Emulator
 from cdc6600.comparing.faults import BadInput, ended
 from cdc6600.comparing.finding import Comparison, Replayed

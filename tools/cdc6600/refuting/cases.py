@@ -64,11 +64,18 @@ def shown(line):
 
 @dataclass(frozen=True)
 class Case:
-    """A command of an executable by its words, its input, and a name."""
+    """A command of an executable by its words, its input, and a name. A test has no input, and fails or not."""
 
     name: str
     words: tuple
     text: bytes = b""
+    is_test: bool = False
+
+    def differs(self, came, right):
+        """Where a run differs from the right one, in words; none where it doesn't."""
+        if self.is_test and came.status:
+            return "it fails" if not right.status else None
+        return came.differs(right)
 
     def run(self, file):
         """How an executable does it. One that runs on is killed."""
@@ -159,7 +166,7 @@ class Cases:
         case."""
         cases = self.last + self.plain if is_last_first else self.plain + self.last
         for case in cases:
-            found = case.run(file).differs(self.right[case.name])
+            found = case.differs(case.run(file), self.right[case.name])
             if found:
                 return f"{case.name}: {found}"
         return None
@@ -174,4 +181,4 @@ def of_tests(crate, file):
     """The cases of a crate's tests, by its executable."""
     listed = subprocess.run([file, "--list"], capture_output=True, text=True, check=False).stdout
     names = [line.removesuffix(": test") for line in listed.splitlines() if line.endswith(": test")]
-    return Cases(file, [Case(f"the test {crate}::{name}", (name,)) for name in names])
+    return Cases(file, [Case(f"the test {crate}::{name}", (name,), is_test=True) for name in names])
