@@ -29,7 +29,10 @@ DRAWN = 60
 # Command lines without input.
 USAGE = ((), ("nosuch",), ("run", "--budget", "0x1"), ("replay", "I0"), ("replay",), ("events", "more"), ("--version",))
 # Lines that are no events.
-NO_EVENTS = ("read", "accept 4", "accept x", "return 9", "bank 32", "ask 8", "ppwrite 110", "ppwrite 8 1", "issue ", "")
+NO_EVENTS = (
+    "read", "read boolean 1", "accept 4", "accept x", "accept 1 2", "return 9", "bank 32", "bank 1 2", "ask 8", "ask 40 1",
+    "ppread 110 5", "ppwrite 110", "ppwrite 8 1", "ppwrite 110 5 6", "issue ", "issue 1", "",
+)
 
 
 @dataclass(frozen=True)
@@ -111,6 +114,7 @@ def stored():
     for it in sessions():
         yield Case(str(it), ("events",), it.text)
         yield Case(f"{it} with a budget of 2", ("events", "--budget", "2"), it.text)
+        yield Case(f"{it} by replay", ("replay", log_of(it.answers)), it.text)
     for it in (it for it in decks() if it.name not in LONG):
         yield Case(f"{it} by run --sequential", ("run", "--sequential", *it.arguments), it.text)
         yield Case(f"{it} by list", ("list",), it.text)
