@@ -14,10 +14,10 @@ changed since its bodies were last tried on this machine. docs/work/CHANGING.md 
 Bodies are tried in groups: tools/cdc6600/wrong_bodies/copies.py, and for the rest groups.py, say why one check can
 judge many.
 tools/cdc6600/wrong_bodies/verdicts.py says what a check refuses, and second.py when that counts. tools/cdc6600/refuting
-runs the others: a body is refuted by a deck or a session for which the program writes something else with it. Of one
-that isn't, it can't tell. Its edit gives the reason in a line `unsure: REASON`, or the body counts as not refused. A
-body that does what the right one does has a line `equivalent: REASON`, and isn't tried. One that its contract lets
-through has a line `let through: REASON`; the prover isn't asked, and a run has to refute it.
+runs the others: a body is refuted by a deck, a session or a test for which it does something else. Of one that isn't,
+it can't tell. Its edit gives the reason in a line `unsure: REASON`, and then it isn't run; else it counts as not
+refused. A body that does what the right one does has a line `equivalent: REASON`, and isn't tried. One that its
+contract lets through has a line `let through: REASON`; the prover isn't asked, and a run has to refute it.
 
 It prints a line for each body with its verdict and the goal or the case, a line for each crate, and last the number of
 bodies, of those that aren't refused, and of those of which it can't tell. The status is 0 if no body counts as not

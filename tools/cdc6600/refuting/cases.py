@@ -117,10 +117,11 @@ def stored():
         yield Case(f"{it} by replay", ("replay", log_of(it.answers)), it.text)
     for it in (it for it in decks() if it.name not in LONG):
         yield Case(f"{it} by run --sequential", ("run", "--sequential", *it.arguments), it.text)
-        yield Case(f"{it} by list", ("list",), it.text)
+        if it.listing is not None:
+            yield Case(f"{it} by list", ("list",), it.text)
+            yield Case(f"{it} by replay --log-follows", ("replay", "--log-follows"), followed(it.text, log_of(it.dump)))
         if it.dump is not None:
             yield Case(f"{it} by replay", ("replay", log_of(it.dump)), it.text)
-            yield Case(f"{it} by replay --log-follows", ("replay", "--log-follows"), followed(it.text, log_of(it.dump)))
 
 
 def rows():
@@ -161,15 +162,14 @@ def drawn(program):
 class Cases:
     """Cases of an executable, each with what the right one does."""
 
-    def __init__(self, file, plain, last=()):
-        self.plain, self.last = list(plain), list(last)
-        self.right = {case.name: case.run(file) for case in self.plain + self.last}
+    def __init__(self, file, plain, by_threads=()):
+        self.plain, self.by_threads = list(plain), list(by_threads)
+        self.right = {case.name: case.run(file) for case in self.by_threads + self.plain}
 
-    def difference(self, file, is_last_first=False):
+    def difference(self, file, is_threaded=False):
         """The first case in which an executable does something else, and where it differs; none if there is no such
         case."""
-        cases = self.last + self.plain if is_last_first else self.plain + self.last
-        for case in cases:
+        for case in (self.by_threads + self.plain if is_threaded else self.plain + self.by_threads):
             found = case.differs(case.run(file), self.right[case.name])
             if found:
                 return f"{case.name}: {found}"

@@ -1,8 +1,8 @@
 """Executables that have every wrong body of the crates, and run the one that a number chooses.
 
 They are built from the sources without their proof. Each function with wrong bodies compares its crate's number with
-the numbers of these bodies, and runs the chosen one, or the right one. The number is a constant that an executable has
-once, so one build is enough: each body gets a copy of the executable with its number in that place.
+the numbers of these bodies, and runs the chosen one, or the right one. The number is a constant of eight bytes that
+nothing else in an executable has, so one build is enough: each body gets a copy of the executable with its number there.
 """
 
 import os
@@ -14,11 +14,11 @@ from dataclasses import dataclass, field
 from cdc6600.building import unproved
 from cdc6600.crates.kit import checker
 from cdc6600.crates.source import Sources
-from cdc6600.crates.table import Table, Unreadable
+from cdc6600.crates.table import Table
 from cdc6600.wrong_bodies.edits import read_bodies
 
 # The constant of the first crate; each further one has the next constant. The number of a body is below it.
-FIRST = 0x5EED_0001
+FIRST = 0x5EED_C0DE_7A11_0001
 CHOSEN = "chosen_body"
 ROOTS = ("src/lib.rt", "src/main.rt")
 # While an executable is written no process is started, since that one would have it open, and nobody could run it.
@@ -78,7 +78,7 @@ def arms_of(item, wrong, lines):
 def write_texts(folder, texts, constant):
     """Writes the sources of a crate with its constant."""
     root = next(it for it in ROOTS if it in texts)
-    number = f"\n/// The number of the wrong body that runs.\nfn {CHOSEN}() -> u32 {{\n    {constant}\n}}\n"
+    number = f"\n/// The number of the wrong body that runs.\nfn {CHOSEN}() -> u64 {{\n    {constant}\n}}\n"
     for path, text in (texts | {root: texts[root] + number}).items():
         (folder / path).write_text(text, encoding="utf-8")
 
@@ -105,19 +105,16 @@ class Choice:
     def built(self, crate, is_test=False):
         """The executable of a program, or that of a crate's tests.
 
-        Raises Unproved if it can't be built, and Unreadable if it has a constant twice."""
+        Raises Unproved if it can't be built."""
         room = self.room / "built" / crate
         room.mkdir(parents=True)
         data = unproved.build(self.table, checker().parent.parent, crate, room, is_test).read_bytes()
-        twice = [name for name, constant in self.constants.items() if data.count(bytes_of(constant)) > 1]
-        if twice:
-            raise Unreadable(f"the executable of {crate} has the constants of {', '.join(twice)} more than once")
         return Executable(self, room, data)
 
 
 def bytes_of(number):
     """A number as an executable has it."""
-    return number.to_bytes(4, "little")
+    return number.to_bytes(8, "little")
 
 
 class Executable:

@@ -2,7 +2,8 @@
 
 A body is refuted by a case in which the program, or a test, writes something else with it than with the right body.
 The right one is proved, so in this case the wrong one doesn't do what its contract says. The tests are those of the
-crates above the body's own, and are only run where no case of the program refutes it.
+crates above the body's own, and are only run if no case of the program refutes it. A body whose edit says `unsure: `
+isn't run.
 """
 
 import tempfile
@@ -11,13 +12,14 @@ from pathlib import Path
 
 from cdc6600.building.building import Unproved
 from cdc6600.crates.table import Unreadable
+from cdc6600.wrong_bodies.edits import UNSURE
 from cdc6600.wrong_bodies.verdicts import CANT_TELL, REFUTED, Verdict
 
 from .cases import of_program, of_tests
 from .choosing import Choice
 
 PROGRAM = "operator_main"
-# The crates above this one are for runs by threads.
+# The crates from this one on are for runs by threads.
 LOCK = "machine_lock"
 
 
@@ -25,6 +27,11 @@ def unsure_in(crates):
     """The bodies of which it can't be told, each with its crate."""
     return [(crate, body) for crate in crates for body in crate.bodies
             if body.name in crate.verdicts and crate.verdicts[body.name].kind == CANT_TELL]
+
+
+def left_in(crates):
+    """Those of which nobody can tell yet."""
+    return [(crate, body) for crate, body in unsure_in(crates) if UNSURE not in body.notes]
 
 
 def has_tests(folder):
@@ -45,19 +52,19 @@ class Refuting:
         self.try_all(program, of_program(program.right()))
         for name in (name for name in self.table.lines if has_tests(self.table.folder(name))):
             above = {*self.table.below(name), name}
-            if any(crate.name in above for crate, _ in unsure_in(self.crates)):
+            if any(crate.name in above for crate, _ in left_in(self.crates)):
                 tests = self.choice.built(name, is_test=True)
                 self.try_all(tests, of_tests(name, tests.right()))
 
     def try_all(self, executable, cases):
         """Tries all bodies that are left and can be chosen in an executable."""
-        left = [(crate, body) for crate, body in unsure_in(self.crates) if executable.has(crate.name, body.name)]
+        left = [(crate, body) for crate, body in left_in(self.crates) if executable.has(crate.name, body.name)]
 
         def difference(pair):
             crate, body = pair
             file = executable.wrong(crate.name, body.name)
             try:
-                return cases.difference(file, LOCK in self.table.below(crate.name))
+                return cases.difference(file, LOCK in [*self.table.below(crate.name), crate.name])
             finally:
                 file.unlink()
 
@@ -71,7 +78,7 @@ def refute(table, crates, at_once):
     """Runs the bodies of which it can't be told, so many at once, and notes those that a case refutes.
 
     Raises Unreadable if an executable with all wrong bodies can't be built."""
-    if unsure_in(crates):
+    if left_in(crates):
         with tempfile.TemporaryDirectory(prefix="refuting-") as room:
             try:
                 Refuting(table, crates, Path(room), at_once).run()
