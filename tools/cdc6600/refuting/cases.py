@@ -8,6 +8,7 @@ tests are its tests.
 """
 
 import random
+import re
 import resource
 import signal
 import subprocess
@@ -115,6 +116,7 @@ def stored():
         yield Case(str(it), ("events",), it.text)
         yield Case(f"{it} with a budget of 2", ("events", "--budget", "2"), it.text)
         yield Case(f"{it} by replay", ("replay", log_of(it.answers)), it.text)
+        yield Case(f"{it} by replay with reads in between", ("replay", in_parts(log_of(it.answers))), it.text)
     for it in (it for it in decks() if it.name not in LONG):
         yield Case(f"{it} by run --sequential", ("run", "--sequential", *it.arguments), it.text)
         if it.listing is not None:
@@ -122,6 +124,11 @@ def stored():
             yield Case(f"{it} by replay --log-follows", ("replay", "--log-follows"), followed(it.text, log_of(it.dump)))
         if it.dump is not None:
             yield Case(f"{it} by replay", ("replay", log_of(it.dump)), it.text)
+
+
+def in_parts(log):
+    """A log in which each instruction is an entry of its own, after a peripheral read."""
+    return re.sub(r"I([0-9]+)", lambda it: " ".join(["R0 I1"] * int(it[1])), log)
 
 
 def rows():
