@@ -21,12 +21,17 @@ def deck_of(program, settings):
 
 
 def listing_of(program):
-    """The lines of the listing: those of the source, each with the address and the word that begins with it; a line of
-    DATA has a further line for each further word."""
+    """The lines of the listing."""
+    return [line for _, line in numbered_listing(program)]
+
+
+def numbered_listing(program):
+    """The lines of the listing: those of the source, each with its number, and with the address and the word that
+    begins with it; a line of DATA has a further line for each further word, without a number."""
     of_lines = {}
     for word in program.words.values():
         of_lines.setdefault(word.number, []).append(f"{word.address:06o} {word.word:020o}")
     for number, text in enumerate(program.texts, 1):
         first, *others = of_lines.get(number, [f"{program.begins[number]:06o}" if number in program.begins else ""])
-        yield f"{first:27} {text}".rstrip()
-        yield from others
+        yield number, f"{first:27} {text}".rstrip()
+        yield from ((0, other) for other in others)

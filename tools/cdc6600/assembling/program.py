@@ -200,6 +200,15 @@ class Program:
                 self.place(line, Given(self.address, line, text, column, word))
                 self.address += 1
 
+    def line_at(self, address, parcel):
+        """The number of the line whose instruction begins at a parcel of a word, or none."""
+        at = 0
+        for line, it in getattr(self.words.get(address), "parts", []):
+            if at == parcel:
+                return line.number
+            at += it.parcels
+        return None
+
     def instruct(self, line, it):
         """Places an instruction: in the word before if it has room, else in the next one."""
         if self.open and self.open.free < it.parcels:

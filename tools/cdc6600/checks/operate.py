@@ -1,12 +1,12 @@
 """Drives tools/operate through a pseudo terminal.
 
 A whole session is driven on the terminal's screen and one by lines, each with events that are offered and typed,
-refused ones, events that are taken back, a line that is none, and a save. Values, past events, help, the completion of
-what is typed, the commands `next` and `through`, the keys that change a line, a terminal that is resized, and files
-that aren't written over are tried as well. What was answered on the way has to be what
-`cdc6600 events` answers to the saved session, and tools/timeline has to draw it. A run that is interrupted or ended by
-a signal has to leave the terminal as it was. A file that isn't there, a refused deck, a terminal that is too small or
-none, and a program that is missing or dies have to give one line and a status.
+refused ones, events that are taken back, a line that is none, and a save. Values, past events, the listing of a source
+program, help, the completion of what is typed, the commands `next` and `through`, the keys that change a line, a
+terminal that is resized, and files that aren't written over are tried as well. What was answered on the way has to be
+what `cdc6600 events` answers to the saved session, and tools/timeline has to draw it. A run that is interrupted or
+ended by a signal has to leave the terminal as it was. A file that isn't there, a refused deck, a terminal that is too
+small or none, and a program that is missing or dies have to give one line and a status.
 
 It says nothing where all is right, else what was awaited and what came. CDC6600 may name the program to ask.
 
@@ -178,6 +178,36 @@ def helped(_program, _folder):
     return faults
 
 
+def listed(_program, folder):
+    """Shows the listing of a source program, with the next instruction marked, and that a deck has none; the faults."""
+    faults, file = [], folder / "listed.source"
+    lines = ["START SX1 5", "* A comment", "\tSX2\t3   three", "NEXT BX3 X1", " PS"]
+    marked = (
+        ("exchange", "> 000000 71100000057120000003 START SX1 5"), ("issue", "> SX2 3 three"),
+        ("issue", "> 000001 10310000004600046000 NEXT BX3 X1"), ("issue", "> PS"),
+    )
+    # The screen shows what is around the next instruction, and lines show everything.
+    for options, others in (([], 30), (["--plain"], 3)):
+        file.write_text("* One\n" * others + "\n".join(lines) + "\n* One" * others, encoding="ascii")
+        with closing(Terminal([OPERATE, *options, file], {})) as terminal:
+            terminal.wait("after 0 events")
+            terminal.type("ask 40\r")
+            terminal.wait("ask 40 -> ok.")
+            for event, wanted in marked:
+                terminal.type(f"{event}\r")
+                terminal.wait(f"{event} -> ok")
+                terminal.type("source\r")
+                terminal.wait(wanted)
+                terminal.type("source\r" * (not options))
+            terminal.type("quit\rquit\r")
+            faults += ended_as(terminal, 0, "", f"a listing with {options}")
+    with closing(Terminal([OPERATE, DECK.file], {})) as terminal:
+        terminal.type("source\r")
+        terminal.wait("The deck is from no source program.")
+        terminal.type("quit\r")
+        return faults + ended_as(terminal, 0, "", "a deck without a listing")
+
+
 def by_keys(terminal):
     """What keys do on the screen: the next event, a line typed before, and what a line may become."""
     terminal.press("Right")
@@ -333,7 +363,7 @@ def main():
     program, faults = Program(), []
     os.environ["CDC6600"] = program.path
     with tempfile.TemporaryDirectory() as folder:
-        for work in (on_screen, by_lines, helped, resized, kept, to_the_end, taken_up, interrupted, refused):
+        for work in (on_screen, by_lines, helped, listed, resized, kept, to_the_end, taken_up, interrupted, refused):
             try:
                 faults += work(program, Path(folder))
             except Missing as fault:

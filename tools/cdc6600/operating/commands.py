@@ -11,9 +11,9 @@ HELP = (
     "Type an event, as in docs/use/formats.md, or a command: next makes the event that a drain would make next, undo "
     "takes the last one back, and next 5 and undo 5 five of them; through UNIT takes a unit to its store event, until "
     "X6 makes next events until X6 has another value, until 110 until that word has, and until refused issues until "
-    "an issue would be refused; values and past show the values and the past events, save FILE writes the deck and "
-    "the events as a session, quit ends; if events aren't saved, the second quit does. n, u and q are next, undo and "
-    "quit."
+    "an issue would be refused; values and past show the values and the past events, source the listing of a source "
+    "program, save FILE writes the deck and the events as a session, quit ends; if events aren't saved, the second "
+    "quit does. n, u and q are next, undo and quit."
 )
 # What may be typed for a command.
 SHORT = {"n": "next", "u": "undo", "q": "quit"}
@@ -21,7 +21,7 @@ SHORT = {"n": "next", "u": "undo", "q": "quit"}
 MOST = 1000
 OVER = "The session is at its end. undo takes its last event back, save FILE saves it, quit ends."
 # What may be shown instead of the machine.
-VALUES, PAST = PANES = ("values", "past")
+VALUES, PAST, SOURCE = PANES = ("values", "past", "source")
 
 
 class Quit(Exception):
@@ -61,13 +61,15 @@ class Commands:
         return commands[line]() if line in commands else self.make(line)
 
     def turn(self, pane):
-        """Shows the values or the past events instead of the machine, and the machine again where they are shown."""
+        """Shows the values, the past events or the listing instead of the machine, and the machine again where they are
+        shown."""
         self.pane = None if self.pane == pane else pane
         return self.operation.said()
 
     def lines(self):
         """The lines of what is shown instead of the machine."""
-        return self.operation.value_lines() if self.pane == VALUES else self.operation.past()
+        it = self.operation
+        return {VALUES: it.value_lines, PAST: it.past, SOURCE: it.source_lines}[self.pane]()
 
     def next(self):
         """Makes the event that a drain would make next, or with nothing pending the exchange or an issue."""

@@ -14,6 +14,7 @@ from cdc6600.drawing.words import Words
 from cdc6600.shared.writing import put, why_not_written
 
 from .conversation import Conversation
+from .listing import Listing
 
 # What a reservation does next in its unit, by its phase.
 NEXT = {"issued": "read", "read": "finish", "finished": "store"}
@@ -42,7 +43,7 @@ class Operation:
         """Makes the events of the schedule that comes after the deck, up to its end or drain, if there is one.
 
         Raises Fault where the deck is refused, or a line of the schedule is no event."""
-        self.program, self.file = program, file
+        self.program, self.file, self.listing = program, file, Listing(file)
         given = Session(file, text)
         lines = text.split("\n")[: given.deck_end]
         # A deck without its end is refused as it was given.
@@ -119,6 +120,10 @@ class Operation:
         """A line for each event so far, with its number and its answer."""
         answers = ["the dump" if it.startswith("P ") else it for it in self.following.answers]
         return [f"{n:>4} {event:<18} {answer}" for n, (event, answer) in enumerate(zip(self.events, answers), 1)]
+
+    def source_lines(self):
+        """The listing of the source program, with a mark before the next instruction."""
+        return self.listing.lines(self.following.replays, self.following.log.text)
 
     def values(self):
         """The values now."""

@@ -8,7 +8,7 @@ from cdc6600.drawing.following import PLACES
 from cdc6600.drawing.instructions import UNITS
 from cdc6600.drawing.states import CHANNELS
 
-COMMANDS = ("?", "help", "next", "past", "quit", "save ", "undo", "until ", "until refused", "values")
+COMMANDS = ("?", "help", "next", "past", "quit", "save ", "source", "undo", "until ", "until refused", "values")
 PHRASES = sorted((
     *COMMANDS, "issue", "exchange", "drain", "end", "ask ", "bank ", "ppread ", "ppwrite ",
     *(f"{verb} {unit}" for verb in ("read", "finish", "store", "through") for unit in UNITS),

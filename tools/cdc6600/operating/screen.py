@@ -7,7 +7,8 @@ import sys
 from cdc6600.drawing.following import Fault
 
 from .board import WIDTH, board, offered, wrapped
-from .commands import PAST, Quit
+from .commands import PAST, SOURCE, Quit
+from .listing import MARK
 from .phrases import completed
 
 LINES = 24
@@ -151,6 +152,11 @@ class Screen:
     def pane(self, height):
         """The machine in at most so many lines, or what is shown instead of it."""
         lines = self.commands.lines() if self.commands.pane else board(self.operation.judge)
+        if self.commands.pane == SOURCE:
+            # The next instruction is in sight.
+            at = next((at for at, line in enumerate(lines) if line.startswith(MARK)), 0)
+            first = max(min(at - height // 2, len(lines) - height), 0)
+            return [line[: WIDTH - 1] for line in lines[first : first + height]]
         if self.commands.pane != PAST:
             return lines[:height]
         self.scrolled = min(self.scrolled, max(len(lines) - height, 0))
