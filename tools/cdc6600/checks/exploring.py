@@ -56,7 +56,8 @@ INPUTS = (
     (("decks/run/refused.deck",), 1, "tools/explore: decks/run/refused.deck: E20 line 4: range"),
     (("--times", "decks", "decks/two-adds.deck"), 1, "tools/explore: decks: Is a directory"),
     (("--states", "59", "decks/two-adds.deck"), 1,
-     "tools/explore: decks/two-adds.deck: it has more than 59 states; --states N allows more"),
+     "tools/explore: decks/two-adds.deck: it has more than 59 states; "
+     "--budget 12 looks at the first 12 instructions only, --states N allows more"),
     (("--states", "0", "decks/two-adds.deck"), 2,
      "explore: error: argument --states: 0 is no number from 1 to 1000000"),
     (("--html", "--session", "longest", "decks/two-adds.deck"), 2,

@@ -4,7 +4,8 @@ with, and how many minor cycles the shortest and the longest schedule take.
 The events are those of a program's normal course: the exchange with the package of the deck's start line, issue, read,
 finish, store, accept, return and bank. The deck's `ask` lines aren't used. A schedule ends where no event is accepted
 any more. Which events are accepted is judged by the rules in Python. Then the machine makes these events in sessions
-of `cdc6600 events`, and has to refuse all others.
+of `cdc6600 events`, and has to refuse all others. A loop has many states: --budget 12 looks at its first twelve
+instructions. At a terminal the number of states so far is shown.
 
 This is a look at one program. It proves nothing of another one: the theorem in README.md does. docs/use/tools.md
 explains the output. The status is 0, or 1 for bad input. CDC6600 may name the program to ask.
@@ -25,7 +26,7 @@ from cdc6600.timing.scheduling import check_deck
 from cdc6600.timing.summary import put, report
 from cdc6600.timing.times import read_times
 
-STATES, SESSIONS, BUDGET, MOST = 100_000, 500, 1000, 1_000_000
+STATES, SESSIONS, BUDGET, MOST = 20_000, 500, 1000, 1_000_000
 
 
 def count(word):

@@ -6,9 +6,11 @@ budget, everything is carried out, and all banks are free. Which events are acce
 tools/cdc6600/drawing; confirming.py has the machine confirm it.
 """
 
+import time
 from dataclasses import dataclass, field
 from types import SimpleNamespace
 
+from cdc6600.comparing.running import Progress
 from cdc6600.drawing.following import Fault, Machine, Replays, Reservation, Session
 from cdc6600.drawing.instructions import KINDS, kind_of, results_of
 from cdc6600.drawing.judging import Judge
@@ -21,6 +23,8 @@ from .requests import START
 
 NEXT = {"issued": "read", "read": "finish", "finished": "store"}
 DONE = {"read": "read", "finish": "finished"}
+# What helps if there are many states, and the seconds after which it is told.
+FEWER, SOON = "--budget 12 looks at the first 12 instructions only", 1
 
 
 class Position(State):
@@ -105,8 +109,12 @@ class Exploration:
         for front in (root.earliest, root.latest):
             front.add(Moment(0, {"issue": 0}))
         self.layers, self.ends, self.count = [[root]], [], 1
+        begun, progress = time.monotonic(), Progress()
         while self.layers[-1]:
             self.layers.append(self.next_layer(self.layers[-1]))
+            if time.monotonic() - begun > SOON:
+                progress.show(f"{self.count} states so far; {FEWER}")
+        progress.show("")
         self.layers.pop()
 
     @property
@@ -144,7 +152,7 @@ class Exploration:
     def node(self, found, layer, state):
         """A state that wasn't found before."""
         if self.count == self.most:
-            raise Fault(self.program.session.file, f"it has more than {self.most} states; --states N allows more")
+            raise Fault(self.program.session.file, f"it has more than {self.most} states; {FEWER}, --states N allows more")
         node = found[state.key] = Node(self.count, layer, state)
         node.earliest, node.latest = Front(False), Front(True)
         self.count += 1
