@@ -304,7 +304,8 @@ def faults_of_jobs(tried):
         folder.mkdir()
         ran("conformance", "--jobs", many, "--every", "100000", "--random", "0", f"{script} {folder}")
         most = max(map(int, (folder / "calls").read_text(encoding="ascii").split()), default=0)
-        faults += [] if min(2, int(many)) <= most <= int(many) else [f"conformance --jobs {many}: {most} calls were made at once"]
+        if not min(2, int(many)) <= most <= int(many):
+            faults.append(f"conformance --jobs {many}: {most} calls were made at once")
     return faults
 
 

@@ -31,8 +31,8 @@ DRAWN = 60
 USAGE = ((), ("nosuch",), ("run", "--budget", "0x1"), ("replay", "I0"), ("replay",), ("events", "more"), ("--version",))
 # Lines that are no events.
 NO_EVENTS = (
-    "read", "read boolean 1", "accept 4", "accept x", "accept 1 2", "return 9", "bank 32", "bank 1 2", "ask 8", "ask 40 1",
-    "ppread 110 5", "ppwrite 110", "ppwrite 8 1", "ppwrite 110 5 6", "issue ", "issue 1", "",
+    "read", "read boolean 1", "accept 4", "accept x", "accept 1 2", "return 9", "bank 32", "bank 1 2", "ask 8",
+    "ask 40 1", "ppread 110 5", "ppwrite 110", "ppwrite 8 1", "ppwrite 110 5 6", "issue ", "issue 1", "",
 )
 
 

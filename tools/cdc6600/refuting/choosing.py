@@ -2,7 +2,7 @@
 
 They are built from the sources without their proof. Each function with wrong bodies compares its crate's number with
 the numbers of these bodies, and runs the chosen one, or the right one. The number is a constant of eight bytes that
-nothing else in an executable has, so one build is enough: each body gets a copy of the executable with its number there.
+nothing else in an executable has, so one build is enough: each body gets a copy of it with its number there.
 """
 
 import os

@@ -1,9 +1,9 @@
 """Runs the bodies of which the prover can't tell whether their contract refuses them.
 
-A body is refuted by a case in which the program, or a test, writes something else with it than with the right body.
-The right one is proved, so in this case the wrong one doesn't do what its contract says. The tests are those of the
-crates above the body's own, and are only run if no case of the program refutes it. A body whose edit says `unsure: `
-isn't run.
+A body is refuted by a case in which the program writes something else with it than with the right body, or by a test
+that fails with it. The program with the right bodies is proved, so such a body doesn't do what the definitions say.
+This doesn't show whether the contract of its function excludes it. The tests are those of the crates above the body's
+own, and are only run if no case of the program refutes it. A body whose edit says `unsure: ` isn't run.
 """
 
 import tempfile

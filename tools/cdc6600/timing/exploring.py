@@ -152,7 +152,8 @@ class Exploration:
     def node(self, found, layer, state):
         """A state that wasn't found before."""
         if self.count == self.most:
-            raise Fault(self.program.session.file, f"it has more than {self.most} states; {FEWER}, --states N allows more")
+            many = f"it has more than {self.most} states"
+            raise Fault(self.program.session.file, f"{many}; {FEWER}, --states N allows more")
         node = found[state.key] = Node(self.count, layer, state)
         node.earliest, node.latest = Front(False), Front(True)
         self.count += 1
