@@ -481,7 +481,7 @@ class Checking(unittest.TestCase):
         last ones."""
         with tempfile.TemporaryDirectory() as root:
             write_workspace(root, {**refused, **dict(unsure)})
-            write_workspace(root, {name: pairs for name, (pairs, _) in told.items()}, "must-fail")
+            write_workspace(root, {name: pairs for name, (pairs, _) in told.items()})
             status, lines = runs(root)
         self.assertEqual(status, 1, lines)
         for name in refused:
@@ -517,12 +517,13 @@ class Checking(unittest.TestCase):
     def test_bodies_of_the_night_are_left_out_while_nothing_changes(self):
         with tempfile.TemporaryDirectory() as root:
             write_workspace(root, {"adds_two": REFUSED["adds_two"]})
-            write_workspace(root, {"adds_three_in_all": REFUSED["adds_three_in_all"]}, "nightly-bodies")
-            for words, count in (([], 1), (["--all"], 2), ([], 1), (["tiny"], 2)):
+            for name, folder in (("adds_three_in_all", "nightly-bodies"), ("larger_of_two", "must-fail")):
+                write_workspace(root, {name: REFUSED[name]}, folder)
+            for words, count in (([], 1), (["--all"], 3), ([], 1), (["tiny"], 3)):
                 self.assertEqual(runs(root, *words)[1][-1], f"{count} wrong bodies, 0 not refused, 0 can't tell")
             file = Path(root, "crates/tiny/specs/After.antt")
             file.write_text(SPEC + "\n-- Read by the check.\n", encoding="utf-8")
-            for count in (2, 1):
+            for count in (3, 1):
                 self.assertEqual(runs(root)[1][-1], f"{count} wrong bodies, 0 not refused, 0 can't tell")
 
     def test_unlisted_crate_is_told(self):

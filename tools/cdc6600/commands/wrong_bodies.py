@@ -7,9 +7,10 @@
     tools/wrong-bodies --anew           whatever was kept
     tools/wrong-bodies --after-rt-ci    over the libraries that `rt ci` has just left in this checkout
 
-A wrong body is an edit in crates/NAME/wrong-bodies/, or one of the promised ones in crates/NAME/must-fail/, which
-`rt ci` tries too, or one in crates/NAME/nightly-bodies/. The gate tries those of the night only if their crate has
-changed since its bodies were last tried on this machine. docs/work/CHANGING.md says how one is written.
+A wrong body is an edit in crates/NAME/wrong-bodies/, crates/NAME/nightly-bodies/ or crates/NAME/must-fail/. `rt ci`
+tries those of the last folder, which are promised by name, by checks of its own. Of the last two folders this command
+tries a crate's bodies only if it is asked for all, or if the crate has changed since its bodies were last tried on this
+machine. docs/work/CHANGING.md says how one is written.
 
 Bodies are tried in groups: tools/cdc6600/wrong_bodies/copies.py, and for the rest groups.py, say why one check can
 judge many.
@@ -44,7 +45,7 @@ from cdc6600.wrong_bodies.verdicts import CANT_TELL, NOT_REFUSED, REFUTED, Verdi
 def arguments():
     parser = argparse.ArgumentParser(description=__doc__, formatter_class=argparse.RawDescriptionHelpFormatter)
     parser.add_argument("crates", nargs="*", metavar="CRATE", help="a crate of crates.txt; none: all of them")
-    parser.add_argument("--all", action="store_true", help="those of the night too")
+    parser.add_argument("--all", action="store_true", help="those of all folders; run those of which it can't tell")
     parser.add_argument("--refute", action="store_true", help="run those of which it can't tell, as --all does")
     parser.add_argument("--anew", action="store_true", help="try them whatever an earlier run kept")
     parser.add_argument("--once", action="store_true", help="check each body once, which takes a third of the time")

@@ -14,10 +14,10 @@ The parts, in their order:
 - `rt ci`: every proof from nothing, every test, the wrong bodies of `must-fail`, and the program's stored run. It keeps
   beside the kit what it proved and tried, by the sums of all that it read, and so proves and tries again only what
   changed, and what stands above that; tests and the program are run each time;
-- wrong bodies: those of `must-fail` again, those of `wrong-bodies`, and of a crate that has changed also those of
-  `nightly-bodies`, in groups, over the libraries that `rt ci` left (tools/wrong-bodies --once, which keeps what it
-  tried in the user's cache folder). A body with the verdict `can't tell` has neither passed nor failed, and the number
-  of these is printed at the end;
+- wrong bodies: those of `wrong-bodies`, and of a crate that has changed also those of `nightly-bodies` and
+  `must-fail`, in groups, over the libraries that `rt ci` left (tools/wrong-bodies --once, which keeps what it tried in
+  the user's cache folder). A body with the verdict `can't tell` has neither passed nor failed, and the number of these
+  is printed at the end;
 - decks (tools/cdc6600/checks): what the program prints for them, for the commands of the pages, for worked schedules,
   for the largest decks, for those that are cut and bent, and where calls fail, when requests of both kinds are made,
   what a run with and without threads prints for drawn decks, and which events take memory; that a run ends soon beside

@@ -54,8 +54,9 @@ class Tool(unittest.TestCase):
         for heading, text in {
             "definition": "in_flight/specs/Pending.antt", "contract": "Reference::keeps_order",
             "code": "Err(Refusal::OlderAtAddress)", "proof": "hopper/proofs/hopper/Hopper/accept/Answers.antt:1:",
-            "wrong body": "hopper/must-fail/load_before_an_older_store.edit", "test": "core_tests/src/hopper_tests.rt",
-            "deck": "decks/sessions/one-word.answers", "tool": "drawing/judging.py", "page": "docs/proof/calls.md",
+            "wrong body": "hopper/wrong-bodies/load_before_an_older_store.edit",
+            "test": "core_tests/src/hopper_tests.rt", "deck": "decks/sessions/one-word.answers",
+            "tool": "drawing/judging.py", "page": "docs/proof/calls.md",
         }.items():
             self.assertTrue(any(text in line for line in found[heading]), (heading, text))
 

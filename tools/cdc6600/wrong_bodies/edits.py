@@ -113,7 +113,7 @@ def merged(source, bodies):
 
 
 def read_bodies(folder, source):
-    """Every wrong body of a crate, from both folders, and a line for each edit that can't be read."""
+    """Every wrong body of a crate, from all of its folders, and a line for each edit that can't be read."""
     bodies, faults, names = [], [], set()
     for file in (file for part in EDITS for file in sorted(Path(folder, part).glob("*.edit"))):
         if file.stem in names:

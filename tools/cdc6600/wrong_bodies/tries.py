@@ -17,7 +17,7 @@ from pathlib import Path
 from cdc6600.building import host
 from cdc6600.building.forecast import measured
 from cdc6600.building.processes import stop_all
-from cdc6600.crates.crate import NIGHTLY
+from cdc6600.crates.crate import OF_THE_NIGHT
 from cdc6600.crates.source import Sources, module_of
 from cdc6600.crates.table import Unreadable
 
@@ -98,14 +98,15 @@ class Crate:
 
 def read_crate(table, name, identity, given):
     """Reads a crate's bodies, and takes the verdicts that were kept of the very same text. Those of the night are left
-    out, unless all are asked for or the crate has changed since its bodies were last tried."""
+    out, unless all are asked for or the crate has changed since its bodies were last tried. `rt ci` tries those in
+    `must-fail`, so they are of the night too."""
     source, own = Sources.read(table.folder(name)), own_sum(table, name)
     every, faults = read_bodies(table.folder(name), source)
     apart = [[body for body in every if word in body.notes] for word in (EQUIVALENT, LET_THROUGH)]
     found = [body for body in every if body not in apart[0] + apart[1]]
     kept = Kept(name, sum_of(table, name, identity), given.anew, given.once)
     are_all = given.all or bool(given.crates) or kept.has_changed(own)
-    bodies = [body for body in found if are_all or body.folder != NIGHTLY]
+    bodies = [body for body in found if are_all or body.folder not in OF_THE_NIGHT]
     left_out = len(found) - len(bodies)
     crate = Crate(name, source, bodies, kept, Opening(table, name), own, left_out, *apart, faults=faults)
     for body in bodies:
