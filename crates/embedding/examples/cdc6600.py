@@ -17,6 +17,10 @@ from pathlib import Path  # noqa: E402
 # The program's exit statuses for a wrong command line, for want of memory, and for a read or write that fails.
 USAGE, OUT_OF_MEMORY, DEVICE = 2, 6, 7
 BUDGET = 1_000_000
+# An address at which `advance` never stops.
+NO_ADDRESS = 0xFFFFFFFF
+# The parts of a machine whose contents a call prints.
+PARTS = ("units", "hopper", "channels", "banks", "request", "next_instruction")
 
 
 class Outcome(ctypes.Structure):
@@ -37,7 +41,8 @@ class Registers(ctypes.Structure):
     _fields_ = [
         ("x", ctypes.c_uint64 * 8), ("a", ctypes.c_uint32 * 8), ("b", ctypes.c_uint32 * 8), ("p", ctypes.c_uint32),
         ("ra", ctypes.c_uint32), ("fl", ctypes.c_uint32), ("em", ctypes.c_uint32), ("parcel", ctypes.c_uint8),
-        ("halt", ctypes.c_uint8), ("fault", ctypes.c_bool),
+        ("halt", ctypes.c_uint8), ("fault", ctypes.c_bool), ("has_held", ctypes.c_bool), ("opcode", ctypes.c_uint16),
+        ("held", ctypes.c_uint64),
     ]
 
 
@@ -46,9 +51,9 @@ class Library:
 
     def __init__(self, file):
         self.library = ctypes.CDLL(str(file))
-        for name in ("run", "list", "replay", "events", "boot", "event", "next", "log", "dump", "read_words"):
+        for name in ("run", "list", "replay", "events", "boot", "event", "next", "log", "dump", "read_words", *PARTS):
             getattr(self.library, f"cdc6600_{name}").restype = Outcome
-        for name, answered in (("version", ctypes.c_size_t), ("drain", ctypes.c_uint32),
+        for name, answered in (("version", ctypes.c_size_t), ("drain", ctypes.c_uint32), ("advance", ctypes.c_uint64),
                                ("is_drained", ctypes.c_bool), ("read_registers", ctypes.c_uint8), ("free", None)):
             getattr(self.library, f"cdc6600_{name}").restype = answered
 
@@ -128,6 +133,14 @@ class Machine:
     def dump(self):
         """The dump."""
         return self.calls.call("cdc6600_dump", self.given)
+
+    def contents(self, part):
+        """The lines of one of PARTS."""
+        return self.calls.call(f"cdc6600_{part}", self.given)
+
+    def advance(self, most, address=NO_ADDRESS):
+        """Makes the next event up to so many times, and stops at an address; how many events were made."""
+        return self.calls.library.cdc6600_advance(self.given, ctypes.c_uint64(most), ctypes.c_uint32(address))
 
     def drain(self):
         """Drains it; how many events that took."""

@@ -3,28 +3,7 @@
 use std::io::Write;
 use std::process::ExitCode;
 
-/// The library's functions, as include/cdc6600.h declares them.
-mod declared {
-    #[repr(C)]
-    pub struct Outcome {
-        pub printed: usize,
-        pub told: usize,
-        pub status: u8,
-    }
-
-    // From edition 2024 on this is `unsafe extern`.
-    extern "C" {
-        pub fn cdc6600_events(
-            input: *const u8,
-            input_length: usize,
-            budget: u64,
-            output: *mut u8,
-            output_capacity: usize,
-            line: *mut u8,
-            line_capacity: usize,
-        ) -> Outcome;
-    }
-}
+mod cdc6600;
 
 /// Returns the answers to a session, the fault line if there is one, and the exit status.
 fn events(session: &[u8], budget: u64) -> (Vec<u8>, Vec<u8>, u8) {
@@ -32,7 +11,7 @@ fn events(session: &[u8], budget: u64) -> (Vec<u8>, Vec<u8>, u8) {
     loop {
         // SAFETY: the pointers and lengths are those of slices, which are borrowed for the call and don't overlap.
         let outcome = unsafe {
-            declared::cdc6600_events(
+            cdc6600::cdc6600_events(
                 session.as_ptr(),
                 session.len(),
                 budget,

@@ -117,6 +117,16 @@ struct cdc6600_outcome cdc6600_next(struct cdc6600_machine *machine,
                                     uint8_t *output, size_t output_capacity,
                                     uint8_t *line, size_t line_capacity);
 
+/* An address at which cdc6600_advance never stops. */
+#define CDC6600_NO_ADDRESS UINT32_MAX
+
+/* Makes the next event, as cdc6600_next does, up to most times, and prints nothing. It makes no more after an event that
+ * is refused. It also makes no more after an event that leaves nothing pending and the first instruction in the word at
+ * address next, so a debugger can stop there; address is relative to RA, as P is. Returns the number of events made. If
+ * that is less than most and P isn't the address, the next event is refused: the machine is halted or faulted, or its
+ * budget is used up. */
+uint64_t cdc6600_advance(struct cdc6600_machine *machine, uint64_t most, uint32_t address);
+
 /* Drains the machine: makes events, at most 40, until no issued instruction has an effect still to come. Returns the
  * number of events. */
 uint32_t cdc6600_drain(struct cdc6600_machine *machine);
@@ -135,6 +145,47 @@ struct cdc6600_outcome cdc6600_dump(struct cdc6600_machine *machine,
                                     uint8_t *output, size_t output_capacity,
                                     uint8_t *line, size_t line_capacity);
 
+/* The calls below print the contents of a part of the machine as lines, and allocate nothing. CDC6600_CONTENTS is a
+ * buffer size for each of them. */
+#define CDC6600_CONTENTS 640
+
+/* Prints a line for each functional unit that an instruction holds, in the order of the units' numbers: the name of the
+ * unit, the number of the reservation, `issued`, `read` or `finished`, and the instruction, as in
+ * `longadd 3 read IX3 X1+X2`. */
+struct cdc6600_outcome cdc6600_units(struct cdc6600_machine *machine,
+                                     uint8_t *output, size_t output_capacity,
+                                     uint8_t *line, size_t line_capacity);
+
+/* Prints a line for each place of the hopper, 0 to 3, in which a reference waits: the place, the number of the
+ * reservation, the absolute address in octal, `load` or `store`, and the instruction, as in `0 1 110 load SA1 B0+10`. */
+struct cdc6600_outcome cdc6600_hopper(struct cdc6600_machine *machine,
+                                      uint8_t *output, size_t output_capacity,
+                                      uint8_t *line, size_t line_capacity);
+
+/* Prints a line for each load channel, 1 to 5, in which a load waits: the channel, the number of the reservation, the
+ * word in twenty octal digits, and the instruction. */
+struct cdc6600_outcome cdc6600_channels(struct cdc6600_machine *machine,
+                                        uint8_t *output, size_t output_capacity,
+                                        uint8_t *line, size_t line_capacity);
+
+/* Prints the numbers of the busy banks, 0 to 31, a line each. */
+struct cdc6600_outcome cdc6600_banks(struct cdc6600_machine *machine,
+                                     uint8_t *output, size_t output_capacity,
+                                     uint8_t *line, size_t line_capacity);
+
+/* Prints the absolute address of the package of the requested exchange, as a line in octal, or nothing if no exchange is
+ * requested. */
+struct cdc6600_outcome cdc6600_request(struct cdc6600_machine *machine,
+                                       uint8_t *output, size_t output_capacity,
+                                       uint8_t *line, size_t line_capacity);
+
+/* Prints the instruction that is issued next, as a line with P in octal, the number of the parcel, and the instruction as
+ * a listing has it, as in `1 1 IX4 X2-X1`. If none can be taken, the line has a question mark and the reason instead: the
+ * refused opcode, `straddle` or `fetch`. */
+struct cdc6600_outcome cdc6600_next_instruction(struct cdc6600_machine *machine,
+                                                uint8_t *output, size_t output_capacity,
+                                                uint8_t *line, size_t line_capacity);
+
 /* The registers of a machine. B0 is 0. */
 struct cdc6600_registers {
     uint64_t x[8];
@@ -147,6 +198,9 @@ struct cdc6600_registers {
     uint8_t parcel; /* the number of the next parcel */
     uint8_t halt;   /* one of the numbers below */
     bool fault;     /* an address was out of range */
+    bool has_held;  /* the machine holds a word of the program, whose next parcel is parcel */
+    uint16_t opcode; /* the refused opcode if halt is 2, otherwise 0: f, m and i as octal digits, with i 0 if it has two */
+    uint64_t held;  /* the held word, or 0 */
 };
 
 /* The reason why a machine is halted. */

@@ -1,9 +1,12 @@
 -- The calls that keep a machine for C: their results, and their effect on the machine.
 -- Source: ours.
 use Rattle.std.specs.Prelude.{◌≡◌, ◌⊎◌, ℕ, true, false, if◌then◌else◌, List, [], ◌∷◌, ◌++◌, length, drop}
-use Rattle.std.specs.Prelude.{Option, Some, None, is_none, unwrap_or, Result, Ok, Err, codes, decimal, ⊤, ◌-◌}
+use Rattle.std.specs.Prelude.{Option, Some, None, is_none, is_some, unwrap_or, Result, Ok, Err, codes, decimal, ⊤}
+use Rattle.std.specs.Prelude.{◌+◌, ◌-◌, ◌*◌}
 use Rattle.std.specs.List.{concat}
 use Rattle.word60.specs.Words.{octal_text}
+use Rattle.instructions.specs.declared.instr.Op.{Op}
+use Rattle.instructions.specs.declared.instr.Op.TheVariants.{Plain, Extended}
 use Rattle.instructions.specs.declared.refusal.Refusal.{Refusal}
 use Rattle.instructions.specs.declared.refusal.Refusal.TheVariants as refusals
 use Rattle.instructions.specs.declared.refusal.DeckFault.TheVariants as line_faults
@@ -209,6 +212,16 @@ halt_number (Some (halts.Illegal op)) = 2
 halt_number (Some halts.Straddle) = 3
 halt_number (Some halts.FetchRange) = 4
 
+-- the digits of a refused opcode as a number: f, m and i, or f, m and 0
+abbrev pub opcode_number : Op → ℕ
+opcode_number (Plain f m) = f * 64 + m * 8
+opcode_number (Extended f m i) = f * 64 + m * 8 + i
+
+-- the refused opcode that halted the machine, or 0
+abbrev pub halting_opcode : Option Halt → ℕ
+halting_opcode (Some (halts.Illegal op)) = opcode_number op
+halting_opcode other = 0
+
 -- the registers of a state; B0 is always +0
 pub record HasRegisters (s : State) (r : Registers) : Type 0 where
   pub x : r.x ≡ s.registers.x
@@ -221,6 +234,9 @@ pub record HasRegisters (s : State) (r : Registers) : Type 0 where
   pub mode : r.em ≡ s.area.mode
   pub halt : r.halt ≡ halt_number s.halt
   pub fault : r.fault ≡ s.fault
+  pub has_held : r.has_held ≡ is_some s.position.held
+  pub opcode : r.opcode ≡ halting_opcode s.halt
+  pub held : r.held ≡ unwrap_or s.position.held 0
 
 -- a call copies the registers of the machine's state, even if the machine isn't drained
 abbrev pub TellsRegisters : Booted → ℕ → Registers → Type 0

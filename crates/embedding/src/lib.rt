@@ -11,14 +11,18 @@
 
 ghost use Rattle.std.specs.Prelude.{◌≡◌, None, false, length, not};
 ghost use Rattle.in_flight.specs.Lookup.{is_pending};
+ghost use Rattle.embedding.specs.Advance.{Advances};
+ghost use Rattle.contents_text.specs.Contents.{banks_text, channels_text, hopper_text, next_text, request_text, units_text};
 ghost use Rattle.embedding.specs.Embedding.{HasRun, IsListed, IsReplayed, IsSession, filled};
 ghost use Rattle.embedding.specs.Keeping.{OnMachine, IsSilent, no_machine, HasBooted, DoesText, MakesNext};
-ghost use Rattle.embedding.specs.Keeping.{IsDrainedBy, IsDumped, IsLogged, TellsRegisters, TellsWords};
+ghost use Rattle.embedding.specs.Keeping.{HandsOverText, IsDrainedBy, IsDumped, IsLogged, TellsRegisters, TellsWords};
 ghost use Rattle.embedding.specs.Version.{version};
 
+mod advancing;
 mod booted;
 mod box_parts;
 mod commands;
+mod contents;
 mod event_text;
 mod input_bytes;
 mod machine_handle;
@@ -28,6 +32,8 @@ mod reading;
 mod showing;
 mod stepping;
 
+use contents::show_contents;
+use contents_text::Part;
 pub use machine_handle::MachineHandle;
 pub use outcome::Outcome;
 use outcome::{NO_MACHINE, silent};
@@ -160,6 +166,29 @@ pub extern "C" fn cdc6600_next(
     }
 }
 
+/// Makes the next event, as `cdc6600_next` does, up to `most` times. Makes no more after an event that is refused, or
+/// after an event that leaves nothing pending and the first instruction in the word at `address` next. Returns how many
+/// events were made.
+#[unsafe(no_mangle)]
+pub extern "C" fn cdc6600_advance(
+    alloc: Global,
+    machine: &mut MachineHandle,
+    most: u64,
+    address: u32,
+) -> u64
+    ensures { OnMachine machine.old.owned.machine machine.new.owned.machine (result ≡ 0)
+        (λ b c. (c.deck ≡ b.deck) × Advances most address b.machine c.machine result) }
+{
+    match machine.take(alloc) {
+        Some(mut booted) => {
+            let count = advancing::advance(&mut booted, most, address);
+            machine.put(booted);
+            count
+        }
+        None => 0,
+    }
+}
+
 /// Drains the machine and returns the number of events that this took, or 0 if there is no machine.
 #[unsafe(no_mangle)]
 pub extern "C" fn cdc6600_drain(alloc: Global, machine: &mut MachineHandle) -> u32
@@ -234,6 +263,101 @@ pub extern "C" fn cdc6600_log(
         }
         None => silent(NO_MACHINE),
     }
+}
+
+/// Copies a line to `output` for each functional unit that an instruction holds, in the order of the units' numbers:
+/// the name of the unit, the number of the reservation, the stage and the instruction.
+#[unsafe(no_mangle)]
+pub extern "C" fn cdc6600_units(
+    alloc: Global,
+    machine: &mut MachineHandle,
+    output: &mut [u8],
+    line: &mut [u8],
+) -> Outcome
+    ensures { OnMachine machine.old.owned.machine machine.new.owned.machine
+        (IsSilent no_machine result output.old output.new)
+        (λ b c. (c ≡ b) × HandsOverText (units_text b.machine.pending) result output.old output.new) }
+{
+    show_contents(alloc, machine, Part::Units, output, line)
+}
+
+/// Copies a line to `output` for each place of the hopper in which a reference waits: the place, the number of the
+/// reservation, the absolute address in octal, `load` or `store`, and the instruction.
+#[unsafe(no_mangle)]
+pub extern "C" fn cdc6600_hopper(
+    alloc: Global,
+    machine: &mut MachineHandle,
+    output: &mut [u8],
+    line: &mut [u8],
+) -> Outcome
+    ensures { OnMachine machine.old.owned.machine machine.new.owned.machine
+        (IsSilent no_machine result output.old output.new)
+        (λ b c. (c ≡ b) × HandsOverText (hopper_text b.machine.pending) result output.old output.new) }
+{
+    show_contents(alloc, machine, Part::Hopper, output, line)
+}
+
+/// Copies a line to `output` for each load channel in which a load waits: the channel, the number of the reservation,
+/// the word and the instruction.
+#[unsafe(no_mangle)]
+pub extern "C" fn cdc6600_channels(
+    alloc: Global,
+    machine: &mut MachineHandle,
+    output: &mut [u8],
+    line: &mut [u8],
+) -> Outcome
+    ensures { OnMachine machine.old.owned.machine machine.new.owned.machine
+        (IsSilent no_machine result output.old output.new)
+        (λ b c. (c ≡ b) × HandsOverText (channels_text b.machine.pending) result output.old output.new) }
+{
+    show_contents(alloc, machine, Part::Channels, output, line)
+}
+
+/// Copies the numbers of the busy banks to `output`, a line each.
+#[unsafe(no_mangle)]
+pub extern "C" fn cdc6600_banks(
+    alloc: Global,
+    machine: &mut MachineHandle,
+    output: &mut [u8],
+    line: &mut [u8],
+) -> Outcome
+    ensures { OnMachine machine.old.owned.machine machine.new.owned.machine
+        (IsSilent no_machine result output.old output.new)
+        (λ b c. (c ≡ b) × HandsOverText (banks_text b.machine.busy) result output.old output.new) }
+{
+    show_contents(alloc, machine, Part::Banks, output, line)
+}
+
+/// Copies the absolute address of the package of the requested exchange to `output`, as a line in octal. Copies nothing
+/// if no exchange is requested.
+#[unsafe(no_mangle)]
+pub extern "C" fn cdc6600_request(
+    alloc: Global,
+    machine: &mut MachineHandle,
+    output: &mut [u8],
+    line: &mut [u8],
+) -> Outcome
+    ensures { OnMachine machine.old.owned.machine machine.new.owned.machine
+        (IsSilent no_machine result output.old output.new)
+        (λ b c. (c ≡ b) × HandsOverText (request_text b.machine.request) result output.old output.new) }
+{
+    show_contents(alloc, machine, Part::Request, output, line)
+}
+
+/// Copies the next instruction to `output`, as a line with P in octal, the parcel, and the instruction as a listing has
+/// it. If none can be taken, the line has a question mark and the reason instead: the opcode, `straddle` or `fetch`.
+#[unsafe(no_mangle)]
+pub extern "C" fn cdc6600_next_instruction(
+    alloc: Global,
+    machine: &mut MachineHandle,
+    output: &mut [u8],
+    line: &mut [u8],
+) -> Outcome
+    ensures { OnMachine machine.old.owned.machine machine.new.owned.machine
+        (IsSilent no_machine result output.old output.new)
+        (λ b c. (c ≡ b) × HandsOverText (next_text b.machine.state) result output.old output.new) }
+{
+    show_contents(alloc, machine, Part::NextInstruction, output, line)
 }
 
 /// Reads the registers as they are now, even if the machine isn't drained. Returns the status.

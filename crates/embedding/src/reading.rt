@@ -1,10 +1,11 @@
-ghost use Rattle.std.specs.Prelude.{◌≡◌, ◌∷◌, ◌-◌, length, true, false, Option};
-ghost use Rattle.embedding.specs.Keeping.{HasRegisters, TellsRegisters, TellsWords, halt_number, words_from};
+ghost use Rattle.std.specs.Prelude.{◌≡◌, ◌∷◌, ◌-◌, length, true, false, Option, unwrap_or};
+ghost use Rattle.embedding.specs.Keeping.{HasRegisters, TellsRegisters, TellsWords, halt_number, halting_opcode, opcode_number};
+ghost use Rattle.embedding.specs.Keeping.{words_from};
 ghost use Rattle.embedding.specs.Embedding.{filled};
 
 use crate::booted::Booted;
 use crate::outcome::Outcome;
-use instruction_table::Halt;
+use instruction_table::{Halt, Op};
 use operator_terms::Status;
 use relocation::Storage;
 use sequential::State;
@@ -31,6 +32,12 @@ pub struct Registers {
     /// instruction, and 4 a fetch out of range.
     pub halt: u8,
     pub fault: bool,
+    /// Whether the machine holds a word of the program.
+    pub has_held: bool,
+    /// The refused opcode if `halt` is 2: its octal digits f, m and i, or f, m and 0 if it has two. Otherwise 0.
+    pub opcode: u16,
+    /// The word of the program that the machine holds, or 0 if it holds none.
+    pub held: u64,
 }
 
 /// The number of the reason why a machine is halted.
@@ -43,6 +50,38 @@ fn halt_number(halt: &Option<Halt>) -> u8
         Some(Halt::Illegal(_)) => 2,
         Some(Halt::Straddle) => 3,
         Some(Halt::FetchRange) => 4,
+    }
+}
+
+/// The digits of a refused opcode as a number.
+fn opcode_number(op: &Op) -> u16
+    ensures { result ≡ opcode_number op.now }
+{
+    match *op {
+        Op::Plain(f, m) => u16::from(f.get()) * 64 + u16::from(m.get()) * 8,
+        Op::Extended(f, m, i) => {
+            u16::from(f.get()) * 64 + u16::from(m.get()) * 8 + u16::from(i.get())
+        }
+    }
+}
+
+/// The refused opcode that halted the machine, as a number; 0 if there is none.
+fn halting_opcode(halt: &Option<Halt>) -> u16
+    ensures { result ≡ halting_opcode halt.now }
+{
+    match halt {
+        Some(Halt::Illegal(op)) => opcode_number(op),
+        _ => 0,
+    }
+}
+
+/// The number of a held word; 0 if none is held.
+fn held_number(held: &Option<Word60>) -> u64
+    ensures { result ≡ unwrap_or held.now 0 }
+{
+    match held {
+        Some(word) => word.get(),
+        None => 0,
     }
 }
 
@@ -91,6 +130,9 @@ fn registers_of(state: &State) -> Registers
         parcel: state.position.parcel.get(),
         halt: halt_number(&state.halt),
         fault: state.fault,
+        has_held: state.position.held.is_some(),
+        opcode: halting_opcode(&state.halt),
+        held: held_number(&state.position.held),
     }
 }
 

@@ -114,7 +114,7 @@ fn exchange_or_issue(machine: &mut Machine) -> (Event, Answer)
 
 /// Makes the next event. That is the event that a drain would make. If nothing is pending it is the requested exchange,
 /// if that may be made, or else an issue.
-fn make_next_event(machine: &mut Machine) -> (Event, Answer)
+pub fn make_next_event(machine: &mut Machine) -> (Event, Answer)
     ensures event { result.0 ≡ next_event machine.old }
     ensures answer { IsAnswer machine.old result.0 result.1 }
     ensures after { machine.new ≡ settled machine.old result.0 result.1 }

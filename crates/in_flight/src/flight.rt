@@ -117,6 +117,21 @@ impl InFlight {
         self.slots.find_stage(unit)
     }
 
+    /// The instruction whose reference waits in a place of the hopper, with the reference. `None` if the place is free.
+    pub fn find_entry(&self, place: u8) -> Option<Located<Reference>>
+        requires { place < 4 }
+        ensures { result ≡ located (seek (entry_at place) self.now.pending) }
+    {
+        self.slots.find_entry(place)
+    }
+
+    /// The instruction whose load waits in a load channel, with its word. `None` if no load waits there.
+    pub fn find_arrival(&self, channel: u8) -> Option<Located<Arrival>>
+        ensures { result ≡ located (seek (arrival_at channel) self.now.pending) }
+    {
+        self.slots.find_arrival(channel)
+    }
+
     /// The oldest instruction in flight.
     pub fn oldest(&self) -> Option<Pending>
         ensures { result ≡ first_of self.now.pending }

@@ -1,6 +1,7 @@
 ghost use Rattle.std.specs.Prelude.{◌≡◌};
-ghost use Rattle.in_flight.specs.Lookup.{stage_at, arrival_at};
+ghost use Rattle.in_flight.specs.Lookup.{stage_at, arrival_at, entry_at};
 
+use hopper::Reference;
 use instruction_table::{Digit, Instr, Unit};
 use relocation::Access;
 use unit_ops::{Operands, UnitValue};
@@ -77,6 +78,22 @@ impl Default for Pending {
 }
 
 impl Pending {
+    /// The reference that waits in this place of the hopper, if this is the instruction's.
+    #[tactic(auto, unfolding(crate::specs::Lookup::entry_at, crate::specs::Lookup::entry_in))]
+    pub(crate) fn entry_in(&self, given: u8) -> Option<Reference>
+        ensures { result ≡ entry_at given self.now }
+    {
+        match self.phase {
+            Phase::Before(_) => None,
+            Phase::After(Outstanding::Accepted(_, _)) => None,
+            Phase::After(Outstanding::Entered(place, address, access)) => if place == given {
+                Some(Reference { address, access })
+            } else {
+                None
+            },
+        }
+    }
+
     /// The load that waits in this channel, if this is the instruction's.
     #[tactic(auto, unfolding(crate::specs::Lookup::arrival_at, crate::specs::Lookup::arrival_in))]
     pub(crate) fn arrival_in(&self, given: u8) -> Option<Arrival>

@@ -8,6 +8,7 @@ ghost use Rattle.in_flight.specs.Lookup.{stage_at, entry_at, arrival_at, in_phas
 ghost use Rattle.in_flight.specs.inner.Slots.{HasRoom, has_none, lower_of, lowest_of};
 
 use crate::{Arrival, Outstanding, Pending, Phase, Stage};
+use hopper::Reference;
 use instruction_table::Unit;
 use std::marker::Model;
 
@@ -188,6 +189,22 @@ impl Slots {
         match left {
             Outstanding::Entered(place, ..) => self.places[usize::from(*place)] = Some(pending),
             Outstanding::Accepted(n, _) => self.channels[usize::from(n.get())] = Some(pending),
+        }
+    }
+
+    /// The instruction whose reference waits in a place of the hopper, with the reference.
+    pub fn find_entry(&self, place: u8) -> Option<Located<Reference>>
+        requires { place < 4 }
+        ensures { result ≡ located (seek (entry_at place) self.now) }
+    {
+        let index = usize::from(place);
+        let slot = self.places[index];
+        let Some(pending) = slot else {
+            return None;
+        };
+        match pending.entry_in(place) {
+            Some(answer) => Some(Located { pending, answer }),
+            None => None,
         }
     }
 

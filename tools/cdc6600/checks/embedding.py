@@ -6,11 +6,13 @@ what they and the library's functions print and tell with what is stored for the
   The calls are made by several threads at once, and then by one with a stack of 64 KiB.
 - A machine that is kept, by the same example: for each session its events made one by one have the stored answers, and
   its log, dump, registers and words are those of the dump. The events that cdc6600_next makes are answered as a session
-  of their lines answers them, and lead to the dump of the deck's run. Lines that say no event, calls without a machine
-  and with one that isn't drained, and a machine in place of another.
+  of their lines answers them, and lead to the dump of the deck's run, and so do those of cdc6600_advance, which stops
+  at an address. After each event the contents of units, hopper, channels and banks are those of the session's drawing.
+  Lines that say no event, calls without a machine and with one that isn't drained, and a machine in place of another.
 - The examples in C and in Rust on each deck and each session; those in C and Python with files that aren't there, with
   an output that can't be written, and, in Python, with a reader that leaves and an interrupt.
-- The version, which the program, the header and the library have alike; and tools/install with `pkg-config`.
+- The version, which the program, the header and the library have alike; each function of the header is declared for
+  Rust and for Python; and tools/install with `pkg-config`.
 - By refused_memory.c, each request for memory refused in turn, under valgrind if that is there. It tells of memory that
   isn't given back.
 
@@ -45,6 +47,7 @@ from .debian import provide
 
 PAGE, EXAMPLE = ROOT / "docs/use/emulators.md", ROOT / "crates/embedding/examples/cdc6600.py"
 KEPT = ROOT / "crates/embedding/out"
+HEADER = ROOT / "crates/embedding/include/cdc6600.h"
 SMALL_STACK = 64 * 1024
 NOTHING = b""
 BAD_LOG = Ran(2, NOTHING, b"cdc6600: bad log\n")
@@ -56,7 +59,7 @@ COMPILER = f"cc -Wall -Wextra -Werror -I out {WRAPPED} -o out/refused_memory"
 # Where the constants of the version stand, beside the library's: in the program and in the header.
 VERSIONS = (
     ("crates/command_line/src/version.rt", r'const VERSION: &str = "(.*)";'),
-    ("crates/embedding/include/cdc6600.h", r'#define CDC6600_VERSION "(.*)"'),
+    (HEADER.relative_to(ROOT), r'#define CDC6600_VERSION "(.*)"'),
 )
 # What is installed of the library alone, and how it is used from there.
 LIBRARY_ALONE = [word for part in ("program", "tools", "pages", "completions") for word in ("--without", part)]
@@ -206,6 +209,25 @@ def faults_of_version(functions):
     return faults
 
 
+def faults_of_declarations():
+    """The functions that a language's declarations lack of those of the header, or have besides."""
+    header = set(re.findall(r"\b(cdc6600_\w+)\(", HEADER.read_text(encoding="utf-8")))
+    rust = set(re.findall(r"fn (cdc6600_\w+)", EXAMPLE.with_suffix(".rs").read_text(encoding="utf-8")))
+    text = EXAMPLE.read_text(encoding="utf-8")
+    python = {name for name in header if re.search(rf'"{name}"|"{name[8:]}"|\.{name}\b', text)}
+    return differing("the functions in Rust", (header,), (rust,)) + differing("those in Python", (header,), (python,))
+
+
+def faults_of_exports(room):
+    """The soname of the shared library, and what it exports besides the header's functions."""
+    shared = room.folder / "out/libcdc6600.so"
+    dynamic = run(["readelf", "-d", shared], capture_output=True, text=True).stdout
+    exported = run(["nm", "-D", "--defined-only", shared], capture_output=True, text=True).stdout.split()[2::3]
+    header = sorted(set(re.findall(r"\b(cdc6600_\w+)\(", HEADER.read_text(encoding="utf-8"))))
+    faults = differing("the soname", (["libcdc6600.so.0"],), (re.findall(r"soname: \[(.*)\]", dynamic),))
+    return faults + differing("the exports", (header,), (sorted(exported),))
+
+
 def stepped(functions, it, address):
     """What the example step.c prints of a deck."""
     with kept_machine.Machine(functions) as machine:
@@ -345,11 +367,13 @@ def works(room, functions):
     yield lambda: faults_of_arguments(functions)
     yield lambda: faults_of_capacities(functions)
     yield lambda: faults_of_version(functions)
+    yield faults_of_declarations
+    yield lambda: faults_of_exports(room)
     yield lambda: faults_of_examples(room, functions)
     yield lambda: Python(room).faults(room)
     yield lambda: faults_of_installing(room)
     yield lambda: faults_of_leaks(room)
-    yield from kept_machine.works(lambda: kept_machine.Machine(functions), functions.events, decks(), sessions())
+    yield from kept_machine.works(lambda: kept_machine.Machine(functions), functions, decks(), sessions())
 
 
 def main():

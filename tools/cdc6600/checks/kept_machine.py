@@ -2,7 +2,10 @@
 
 import re
 
+from cdc6600.drawing.following import Following, Session
+from cdc6600.drawing.states import State
 from cdc6600.shared.decks import deck, log_of, session
+from cdc6600.shared.program import Ran
 
 MISSING, NOT_DRAINED, REFUSED, USAGE = 8, 9, 1, 2
 LONGEST_LINE = 200
@@ -16,8 +19,42 @@ NO_EVENTS = (
 HALTS = ("running", "stop", "illegal", "straddle", "fetch")
 
 
+# The loop at 1 counts X1 down from 3.
+LOOP = b"""core 256
+at 41
+word 00000100000000000000
+word 00000020000000000000
+at 100
+code SX1 B0+3; SX2 B0+1
+code IX1 X1-X2; NZ X1,1; NO
+code PS
+start 40
+end
+"""
+# The units in the order of their numbers.
+UNITS = ("branch", "boolean", "shift", "longadd", "divide", "increment1", "increment2")
+
 # The class Machine of the example in Python, which tools/check embedding loads.
 Machine = None
+
+
+class Program:
+    """The library's functions in the form in which Following asks the program."""
+
+    path = "the library"
+
+    def __init__(self, functions):
+        self.functions = functions
+
+    def replay(self, log, text):
+        """Replays a log on a deck."""
+        printed, told, status = self.functions.replay(text, log.encode())
+        return Ran(status, printed, told)
+
+    def run(self, words, text):
+        """Lists a deck, or answers a session."""
+        printed, told, status = getattr(self.functions, words[0])(text)
+        return Ran(status, printed, told)
 
 
 def differing(what, wanted, came):
@@ -77,6 +114,115 @@ def faults_of_events(make, it):
         if machine.is_drained():
             return faults + faults_of_shown(it, machine, rest)
         return faults + differing(f"the dump of {it}, which isn't drained", (b"", b"", NOT_DRAINED), machine.dump())
+
+
+def contents_of(following, state, log):
+    """The lines that tell the contents of each part of a machine in this state and with this log, but for the words of
+    the channels."""
+    rows, stores = following.rows, re.compile(r"SA[67] |RJ ")
+    held = [(unit, state.units[unit]) for unit in UNITS if unit in state.units]
+    waiting = [(place, row, rows[row]) for place, row in sorted(state.places.items())]
+    arrived = [(channel, row) for channel, row in sorted(state.channels.items()) if row in state.loaded]
+    return {
+        "units": [f"{unit} {row} {state.phases[row]} {rows[row].text}" for unit, row in held],
+        "hopper": [f"{place} {row} {it.address:o} {'store' if stores.match(it.text) else 'load'} {it.text}"
+                   for place, row, it in waiting],
+        "channels": [f"{channel} {row} {rows[row].text}" for channel, row in arrived],
+        "banks": [f"{bank}" for bank in sorted(state.banks)],
+        "request": [state.asked] * bool(state.asked),
+        "next_instruction": [next_line(following.replays, log)],
+    }
+
+
+def next_line(replays, log):
+    """The line of the instruction that is issued next after a log."""
+    p, parcel = replays.number(log, 0, 1), replays.field(log, 0, 3)
+    return f"{p:o} {parcel} {replays.instruction(log) or '?fetch'}"
+
+
+def lines_of_contents(machine, part):
+    """The lines that the library prints of a part; of a channel without its word."""
+    printed, told, status = machine.contents(part)
+    lines = printed.decode().splitlines()
+    if part == "channels":
+        lines = [re.sub(r"^(\d \d+) [0-7]{20} ", r"\1 ", line) for line in lines]
+    return lines if (told, status) == (b"", 0) else [f"status {status}, {told}"]
+
+
+def faults_of_contents(make, functions, it):
+    """The contents of the parts of a machine after each event of a session, against those that the drawings show, which
+    follow the answers."""
+    following = Following(Program(functions), Session(str(it), it.text.decode("latin-1")), None, None)
+    following.follow()
+    faults, state = [], State()
+    with make() as machine:
+        machine.boot(it.text)
+        for n, event in enumerate(following.session.events):
+            if event == "end":
+                break
+            if event == "drain":
+                machine.drain()
+            else:
+                machine.event(event.encode())
+            state = state.after(following, n)
+            wanted = contents_of(following, state, following.logs[n])
+            faults += differing(f"the contents after event {n + 1} of {it}, {event}", wanted,
+                                {part: lines_of_contents(machine, part) for part in wanted})
+    return faults
+
+
+def faults_of_arrival(make):
+    """The word of a load that waits in its channel, and the held word while a word's instructions are issued."""
+    it = session("one-word")
+    with make() as machine:
+        machine.boot(it.text)
+        for line in it.schedule[: it.schedule.index("return 1")]:
+            machine.event(line.encode())
+        held = machine.registers()[0]
+        wanted = ([f"1 1 {1:020o} SA1 B0+10"], True, 0)
+        return differing(f"the channel of {it}", wanted,
+                         (machine.contents("channels")[0].decode().splitlines(), held.has_held, held.opcode))
+
+
+def faults_of_opcodes(make):
+    """The refused opcode by which a run halted."""
+    faults = []
+    for parcels, opcode in (("30000", 0o300), ("01100", 0o11), ("01300", 0o13)):
+        with make() as machine:
+            machine.boot(f"core 256\nat 41\nword 10000000000\nword 20000000000000\nat 100\nword {parcels:<020}\n"
+                         "start 40\nend\n".encode())
+            machine.event(b"ask 40")
+            machine.advance(1000)
+            registers = machine.registers()[0]
+            faults += differing(f"the opcode of {parcels}", (2, opcode), (registers.halt, registers.opcode))
+    return faults
+
+
+def faults_of_advancing(make, it):
+    """Runs a deck by one call that advances, and by calls of at most seven events: they end as its run does."""
+    if not is_short(it):
+        return []
+    first, faults = b"ask " + re.search(rb"^start (\d+)", it.text, re.MULTILINE)[1], []
+    for most in (10_000_000, 7):
+        with make() as machine:
+            machine.boot(it.text)
+            machine.event(first)
+            while machine.advance(most) == most:
+                pass
+            faults += faults_of_shown(f"{it}, advanced by {most}", machine, it.dump)
+    return faults
+
+
+def faults_of_stopping(make):
+    """An advance stops, drained, each of the three times that the loop at 1 begins, and then at the end."""
+    stops = []
+    with make() as machine:
+        machine.boot(LOOP)
+        machine.event(b"ask 40")
+        while machine.advance(1_000_000, 1):
+            registers = machine.registers()[0]
+            stops.append((registers.p, registers.parcel, registers.x[1], machine.is_drained()))
+    return differing("the stops of a loop", [(1, 0, 3, True), (1, 0, 2, True), (1, 0, 1, True), (2, 1, 0, True)], stops)
 
 
 def faults_of_moments(make):
@@ -139,10 +285,11 @@ def faults_of_handles(make):
     """A handle without a machine, and with one in place of another."""
     it, refused = deck("two-adds"), b"cdc6600: E20 line 1: first\n"
     with make() as machine:
-        nothing = [machine.event(b"issue"), machine.next(), machine.log(), machine.dump(), machine.drain(),
-                   machine.is_drained(), machine.registers()[1], machine.words(0, 1)]
+        nothing = [machine.event(b"issue"), machine.next(), machine.log(), machine.dump(), machine.contents("units"),
+                   machine.drain(), machine.advance(1), machine.is_drained(), machine.registers()[1],
+                   machine.words(0, 1)]
         silent = (b"", b"", MISSING)
-        wanted = [silent, silent, silent, silent, 0, False, MISSING, ([], MISSING)]
+        wanted = [silent, silent, silent, silent, silent, 0, 0, False, MISSING, ([], MISSING)]
         faults = differing("calls without a machine", wanted, nothing)
         for budget in (0, 10_000_001):
             faults += differing(f"boot with the budget {budget}", (b"", USAGE), machine.boot(it.text, budget))
@@ -154,12 +301,17 @@ def faults_of_handles(make):
         return faults + differing("a freed machine", silent, machine.event(b"issue"))
 
 
-def works(make, events, decks, sessions):
+def works(make, functions, decks, sessions):
     """All that is tried, each as a call that gives its faults."""
     for it in sessions:
         yield lambda it=it: faults_of_events(make, it)
+        yield lambda it=it: faults_of_contents(make, functions, it)
     for it in decks:
-        yield lambda it=it: faults_of_next(make, events, it)
+        yield lambda it=it: faults_of_next(make, functions.events, it)
+        yield lambda it=it: faults_of_advancing(make, it)
+    yield lambda: faults_of_arrival(make)
+    yield lambda: faults_of_opcodes(make)
+    yield lambda: faults_of_stopping(make)
     yield lambda: faults_of_moments(make)
     yield lambda: faults_of_lines(make)
     yield lambda: faults_of_handles(make)

@@ -358,6 +358,10 @@ LIMITS = {
     ("log_text/src/logs.rt", "accesses: "): LARGEST_LOG,
     ("job_deck/src/dumping.rt", "for number in .."): nothing("there are eight X registers"),
     ("job_deck/src/listing.rt", "while parcel <"): nothing("a word has four parcels"),
+    ("contents_text/src/contents.rt", "PLACES"): answered("full-hopper", "E11 hopper full"),
+    ("contents_text/src/contents.rt", "FIRST_CHANNEL"): nothing("loads go to X1 to X5"),
+    ("contents_text/src/contents.rt", "PAST_CHANNELS"): nothing("loads go to X1 to X5"),
+    ("contents_text/src/contents.rt", "BANKS"): repeated("BANKS", shown("all-banks")),
     ("operator_terms/src/budget.rt", "LARGEST_BUDGET"): repeated(
         "MOST_INSTRUCTIONS", test("operator_main/src/command_tests.rt", "{more}")
     ),
@@ -376,6 +380,7 @@ LIMITS = {
     ),
     ("refused_line/src/texts.rt", "BEFORE"): nothing("no text begins before the word and its blank end"),
     ("refused_line/src/texts.rt", "PARCELS_OF_A_WORD"): too_full(),
+    ("embedding/src/contents.rt", "LINES"): nothing("the lines of five channels have at most 350 bytes"),
     ("embedding/src/outcome.rt", "FAULT_LINE"): nothing("the longest fault line has 47 bytes"),
     ("embedding/src/outcome.rt", "NO_MACHINE"): nothing("it is the number of a status"),
     ("embedding/src/outcome.rt", "NOT_DRAINED"): nothing("it is the number of a status"),

@@ -1,0 +1,2 @@
+-- The contents of the parts of a machine, as lines of text. Source: ours.
+pub mod Contents

@@ -1,0 +1,88 @@
+//! Tests of the contents of a machine's parts, as lines of text.
+
+use contents_text::{Part, put_contents};
+use instruction_table::{Refusal, Unit};
+use job_deck::{CheckedWriter, booted, read_deck};
+use machine::{Event, Machine};
+use std::alloc::Global;
+use std::process::Abort;
+use std::test::Fail;
+
+/// A deck with SA1 B0+17 and SA2 B0+16, which are followed by a stop. The word at 117 (octal) is 5.
+const DECK: &str = "\
+    core 256\n\
+    at 41\n\
+    word 00000100000000000000\n\
+    word 00000020000000000000\n\
+    at 100\n\
+    word 51100000175120000016\n\
+    at 117\n\
+    word 5\n\
+    start 40\n\
+    end\n";
+
+/// The events up to the entry of the first load into the hopper and the issue of the second.
+const ENTERED: [Event; 7] = [
+    Event::Ask(0o40),
+    Event::Exchange,
+    Event::Issue,
+    Event::Read(Unit::Increment1),
+    Event::Finish(Unit::Increment1),
+    Event::Store(Unit::Increment1),
+    Event::Issue,
+];
+
+/// How many of these events are made before memory accepts the first load, if it does; a part, and its contents.
+const CONTENTS: [(usize, bool, Part, &str); 9] = [
+    (0, false, Part::Request, ""),
+    (1, false, Part::Request, "40\n"),
+    (2, false, Part::NextInstruction, "0 0 SA1 B0+17\n"),
+    (7, false, Part::Units, "increment1 2 issued SA2 B0+16\n"),
+    (7, false, Part::Hopper, "0 1 117 load SA1 B0+17\n"),
+    (7, false, Part::Channels, ""),
+    (
+        7,
+        true,
+        Part::Channels,
+        "1 1 00000000000000000005 SA1 B0+17\n",
+    ),
+    (7, true, Part::Banks, "15\n"),
+    (7, true, Part::NextInstruction, "1 0 PS\n"),
+];
+
+/// The machine after the first events.
+fn after(alloc: Global, events: &[Event], is_accepted: bool) -> Result<Machine, Refusal> {
+    let mut text = DECK.as_bytes();
+    let deck = read_deck(alloc, &mut text)?;
+    let mut machine = booted(alloc, &deck, 100)?;
+    for event in events {
+        let _ = machine.apply(*event)?;
+    }
+    if is_accepted {
+        let _ = machine.apply(Event::Accept(0))?;
+    }
+    Ok(machine)
+}
+
+/// Expects the contents of a part of a machine.
+fn expect_contents(
+    rt: &(impl Abort + AllocGlobal),
+    machine: &Machine,
+    part: Part,
+    wanted: &str,
+) -> Result<(), Fail> {
+    let mut text = Vec::new(rt.alloc());
+    let mut output = CheckedWriter::new(&mut text);
+    put_contents(&mut output, machine, part)?;
+    assert!(rt; text.as_slice() == wanted.as_bytes(), "{wanted}");
+    Ok(())
+}
+
+#[test]
+fn contents_of_parts(rt: HostRuntime) -> Result<(), Fail> {
+    for (made, is_accepted, part, wanted) in &CONTENTS {
+        let machine = after(rt.alloc(), &ENTERED[..*made], *is_accepted)?;
+        expect_contents(&rt, &machine, *part, wanted)?;
+    }
+    Ok(())
+}
