@@ -8,7 +8,7 @@ use crate::fixtures::{
 };
 use crate::scenario::{Scenario, play};
 use instruction_table::{Refusal, Unit};
-use machine::{Computed, Finished, Loaded, Machine, Note, Reserved, Seat, Snapshot};
+use machine::{Computed, Event, Finished, Loaded, Machine, Note, Reserved, Seat, Snapshot};
 use machine_lock::{Ground, Naming, Seen, Shared};
 use sequential::Entry;
 use std::alloc::Global;
@@ -183,6 +183,42 @@ fn opening(rt: HostRuntime) -> Result<(), Fail> {
     let was_given = gives_seats(&mut given);
     let again = play(&rt, rt.alloc(), given, &AllSeats);
     assert!(rt; opened == Ok(units) && was_given && again == Err(Refusal::Nothing));
+    Ok(())
+}
+
+/// A machine that has issued SX1 B0+5.
+fn issuing(alloc: Global) -> Result<Machine, Refusal> {
+    let mut machine = booted(alloc, &[(0o100, FIVE)])?;
+    for event in [Event::Ask(0o40), Event::Exchange, Event::Issue] {
+        let _ = machine.apply(event)?;
+    }
+    Ok(machine)
+}
+
+/// Whether the machine was drained. All seats are given up.
+struct IsDrained;
+
+impl Scenario for IsDrained {
+    type Outcome = bool;
+
+    fn play<K: Naming, R: Wait>(
+        &self,
+        rt: &R,
+        shared: &Shared<K>,
+        seats: [Seat; 7],
+        _seen: &mut Seen<K>,
+    ) -> bool {
+        leave_all(seats);
+        shared.drained(rt)
+    }
+}
+
+/// An instruction that is pending when its machine is put under the lock is still pending.
+#[test]
+fn opens_with_an_instruction_pending(rt: HostRuntime) -> Result<(), Fail> {
+    let machine = issuing(rt.alloc())?;
+    let is_drained = play(&rt, rt.alloc(), machine, &IsDrained);
+    assert!(rt; is_drained == Ok(false));
     Ok(())
 }
 

@@ -3,7 +3,7 @@
 use super::dump::Dump;
 use super::schedule::Schedule;
 
-pub const SCHEDULES: [Schedule; 8] = [
+pub const SCHEDULES: [Schedule; 9] = [
     Schedule {
         name: "a load returns before the product reads, and that before the sum stores",
         deck: "\
@@ -382,6 +382,43 @@ pub const SCHEDULES: [Schedule; 8] = [
             log: "E40 I2",
         },
         memory: &[(0o100, "51600004000000000000"), (0o400, "7")],
+    },
+    Schedule {
+        name: "an instruction is issued while a store waits in the hopper",
+        deck: "\
+            core 256\n\
+            at 41\n\
+            word 00000100000000000000\n\
+            word 00000020000000000000\n\
+            at 56\n\
+            word 7\n\
+            at 100\n\
+            word 51600000100000000000\n\
+            start 40\n\
+            show 110 110\n\
+            end\n",
+        budget: 1_000_000,
+        steps: &[
+            ("ask 40", "ok"),
+            ("exchange", "ok"),
+            ("issue", "ok increment1 1"),
+            ("read increment1", "ok"),
+            ("finish increment1", "ok"),
+            ("store increment1", "ok"),
+            ("issue", "ok"),
+            ("accept 0", "ok"),
+        ],
+        left: 0,
+        dump: Dump {
+            begins: "\
+                P 000000 PARCEL 2 HELD 51600000100000000000\n\
+                HALT stop FAULT none\n\
+                RA 000100 FL 000020 EM 000000\n",
+            registers: &[("A6", "10"), ("X6", "7")],
+            shows: "M 000110 00000000000000000007\n",
+            log: "E40 I2",
+        },
+        memory: &[(0o100, "51600000100000000000"), (0o110, "7")],
     },
     Schedule {
         name: "a peripheral processor waits for a store, and then reads and writes its word",

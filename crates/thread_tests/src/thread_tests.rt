@@ -938,6 +938,56 @@ fn refers<K: Naming, R: Wait>(
     (started.is_ok(), [is_stored, is_drained, shared.drained(rt)])
 }
 
+/// The events from the issue of a load to its entry into the hopper.
+const LOAD: [Event; 4] = [
+    Event::Issue,
+    Event::Read(Unit::Increment1),
+    Event::Finish(Unit::Increment1),
+    Event::Store(Unit::Increment1),
+];
+
+/// A machine whose hopper is full: SA1 to SA4 have entered it, and memory has accepted none of them.
+fn referring(alloc: Global) -> Result<Machine, Refusal> {
+    let words = [(0o100, "51100000105120000011"), (0o101, "51300000125140000013")];
+    let mut machine = booted(alloc, words.as_slice())?;
+    for event in [Event::Ask(0o40), Event::Exchange] {
+        let _ = machine.apply(event)?;
+    }
+    for _ in 0..4 {
+        for event in LOAD {
+            let _ = machine.apply(event)?;
+        }
+    }
+    Ok(machine)
+}
+
+/// Does the work of memory, and returns whether the machine was drained before and after it.
+fn served_by_memory<K: Naming, R: Wait>(
+    rt: &R,
+    alloc: Global,
+    ground: Ground,
+    machine: Machine,
+) -> Result<[bool; 2], Refusal>
+    requires { ground ≡ K.table }
+{
+    let (shared, seats, _) = Shared::<K>::open(alloc, ground, machine)?;
+    leave_all(seats);
+    let was_drained = shared.drained(rt);
+    shared.end(rt);
+    storage_worker(rt, &shared);
+    Ok([was_drained, shared.drained(rt)])
+}
+
+/// The storage worker accepts the references in all four places of the hopper, and returns their loads.
+#[test]
+fn empties_the_hopper(rt: HostRuntime) -> Result<(), Fail> {
+    let machine = referring(rt.alloc())?;
+    let ground = Ground::new(rt.alloc())?;
+    let drained = served_by_memory::<Brand, _>(&rt, rt.alloc(), ground, machine)?;
+    assert_eq!(rt; drained, [false, true]);
+    Ok(())
+}
+
 /// A worker serves the notes of its lane until the lane is closed, and its tally settles.
 #[test]
 fn works_until_closed(rt: HostRuntime) -> Result<(), Fail> {
