@@ -115,13 +115,13 @@ fetched_text (Halting halts.Straddle position) = codes "?straddle"
 fetched_text (Halting halts.FetchRange position) = codes "?fetch"
 
 -- P in octal and the parcel, with a space after each
-abbrev pub place_text : ProgramPosition → List ℕ
-place_text position = concat (trimmed (octal_text 20 position.p) ∷ codes " " ∷ ((48 + position.parcel) ∷ []) ∷ codes " "
+abbrev pub position_text : ProgramPosition → List ℕ
+position_text position = concat (trimmed (octal_text 20 position.p) ∷ codes " " ∷ ((48 + position.parcel) ∷ []) ∷ codes " "
     ∷ [])
 
--- the line of the next instruction: its place and its text
+-- the line of the next instruction: its position and its text
 abbrev pub next_text : State → List ℕ
-next_text s = concat (place_text s.position ∷ fetched_text (fetch (bounds_of s) s.memory s.position) ∷ codes "\n" ∷ [])
+next_text s = concat (position_text s.position ∷ fetched_text (fetch (bounds_of s) s.memory s.position) ∷ codes "\n" ∷ [])
 
 -- the contents of a part of the machine
 abbrev pub contents_text : Part → Processor → List ℕ

@@ -4,7 +4,7 @@ ghost use Rattle.device_text.specs.Pieces.{text_of_all};
 ghost use Rattle.device_text.specs.Putting.{Puts};
 ghost use Rattle.contents_text.specs.Contents.{access_text, arrival_line, bank_line, banks_text, channels_text};
 ghost use Rattle.contents_text.specs.Contents.{contents_text, entry_line, hopper_text, request_text, stage_text, unit_line};
-ghost use Rattle.contents_text.specs.Contents.{fetched_text, next_text, place_text, units_text};
+ghost use Rattle.contents_text.specs.Contents.{fetched_text, next_text, position_text, units_text};
 
 use device_text::{Output, Piece, WriteFailed, put_pieces};
 use in_flight::Stage;
@@ -226,8 +226,8 @@ fn put_fetched<O: Output>(output: &mut O, fetched: Fetched) -> Result<(), WriteF
 }
 
 /// P and the parcel of the next instruction, with a space after each.
-fn place_pieces(position: &ProgramPosition) -> [Piece<'static>; 4]
-    ensures { text_of_all result ≡ place_text position.now }
+fn position_pieces(position: &ProgramPosition) -> [Piece<'static>; 4]
+    ensures { text_of_all result ≡ position_text position.now }
 {
     [
         Piece::Address(position.p.get()),
@@ -237,11 +237,11 @@ fn place_pieces(position: &ProgramPosition) -> [Piece<'static>; 4]
     ]
 }
 
-/// Writes the place of the next instruction and its text.
+/// Writes the position of the next instruction and its text.
 fn put_next<O: Output>(output: &mut O, state: &State) -> Result<(), WriteFailed>
     ensures { Puts O.Output result output.old output.new (next_text state.now) }
 {
-    put_pieces(output, &place_pieces(&state.position))?;
+    put_pieces(output, &position_pieces(&state.position))?;
     put_fetched(output, state.fetch())?;
     output.put(b"\n")
 }

@@ -36,8 +36,8 @@ unfolding next_in makes_room
 in_room unit (Before Unread) busy = refl
 in_room unit (Before (Read os)) busy = refl
 in_room unit (Before (Finished v)) busy = refl
-in_room unit (After (Entered place a access)) busy =
-    either_room (slice_index_or busy (bank_of a) false) (BankFree (bank_of a)) (Accept place) refl refl
+in_room unit (After (Entered p a access)) busy =
+    either_room (slice_index_or busy (bank_of a) false) (BankFree (bank_of a)) (Accept p) refl refl
 in_room unit (After (Accepted n word)) busy = refl
 
 of_room : (pending : List Pending) (busy : List Bool) (idle : Event) → makes_room idle ≡ false

@@ -69,7 +69,7 @@ WORDS = [
         "a position (in a word, a list or a program), a slot (of what is kept by number) or an address",
         crates(
             "hopper hopper_tests in_flight program_order judging machine machine_tests progress_word machine_lock"
-            " job_deck reference_schedules memory_worker service"
+            " job_deck contents_text reference_schedules memory_worker service"
         ),
         # A field of what a unit computes with has this name, and so has the hopper's place wherever it is named so.
         r"operands\.place|o\.place|\bplace: (Word18|index|at)|^\s*place(: position)?[,;]|place = position;"
