@@ -948,7 +948,10 @@ const LOAD: [Event; 4] = [
 
 /// A machine whose hopper is full: SA1 to SA4 have entered it, and memory has accepted none of them.
 fn referring(alloc: Global) -> Result<Machine, Refusal> {
-    let words = [(0o100, "51100000105120000011"), (0o101, "51300000125140000013")];
+    let words = [
+        (0o100, "51100000105120000011"),
+        (0o101, "51300000125140000013"),
+    ];
     let mut machine = booted(alloc, words.as_slice())?;
     for event in [Event::Ask(0o40), Event::Exchange] {
         let _ = machine.apply(event)?;

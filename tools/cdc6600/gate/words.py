@@ -73,7 +73,7 @@ WORDS = [
         ),
         # A field of what a unit computes with has this name, and so has the hopper's place wherever it is named so.
         r"operands\.place|o\.place|\bplace: (Word18|index|at)|^\s*place(: position)?[,;]|place = position;"
-        r"|hopper|Accept\(place\)",
+        r"|hopper|Accept\(place\)|for place in",
         r"[Hh]opper|[Rr]eference|[Cc]hannel|[Bb]ank|\b[Pp]lace [0-9]",
     ),
     Word(
