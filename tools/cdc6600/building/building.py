@@ -3,6 +3,7 @@
 tools/build-program builds the program by it, tools/build-library the static library for C.
 """
 
+import fcntl
 import os
 import re
 import shutil
@@ -11,6 +12,7 @@ import subprocess
 import sys
 import time
 from concurrent.futures import FIRST_COMPLETED, ThreadPoolExecutor, wait
+from contextlib import contextmanager
 from dataclasses import dataclass
 from pathlib import Path
 
@@ -113,6 +115,8 @@ class Building:
     def __init__(self, table, top, product, room, given=None):
         self.table, self.top, self.product, self.room = table, top, product, Path(room)
         self.kit, self.given, self.seconds = checker().parent.parent, given or {}, {}
+        # The tools that compile the crate at the top.
+        self.toolchain = self.kit / "toolchain"
         self.plan, self.proved = Plan(table, top, self.given), set(self.given)
         self.forecast = Forecast(self.plan, host.places(), max(host.free_memory() // host.NEEDED, 1))
 
@@ -146,7 +150,7 @@ class Building:
             found += ["-L", f"dependency={self.made(it).parent}"]
         found += ["-L", f"dependency={self.kit}/rlibs", "--logic-built", f"{self.kit}/logic_built"]
         found += ["--antt-project", f"{self.kit}/rattle/logic/antt-project.json", "--jobs", str(self.jobs(name))]
-        compiling = ["--toolchain", f"{self.kit}/toolchain", "--backend", "llvm", *self.product.words]
+        compiling = ["--toolchain", str(self.toolchain), "--backend", "llvm", *self.product.words]
         found += compiling if name == self.top else ["--statements"]
         return [*found, "-o", str(self.made(name))]
 
@@ -208,6 +212,19 @@ def put(made, file, begun):
     shutil.copy(made, part)
     os.utime(part, (begun, begun))
     part.replace(file)
+
+
+@contextmanager
+def locked(file):
+    """Within it no other call builds the same file. The kernel removes the lock of a call that is killed."""
+    file.parent.mkdir(parents=True, exist_ok=True)
+    with open(f"{file}.lock", "wb") as lock:
+        try:
+            fcntl.flock(lock, fcntl.LOCK_EX | fcntl.LOCK_NB)
+        except BlockingIOError:
+            tell(f"another call builds {file}; this one waits for it")
+            fcntl.flock(lock, fcntl.LOCK_EX)
+        yield
 
 
 def ended(work):

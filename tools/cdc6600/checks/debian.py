@@ -10,11 +10,12 @@ from cdc6600.shared.waiting import Missing, run
 
 NEEDED = {
     "browser": ("chromium", "chromedriver"), "emulators": ("rustc",), "habits": ("man",),
-    "embedding": ("cc", "pkg-config", "rustc"), "style": ("flake8",),
+    "embedding": ("cc", "pkg-config", "rustc"), "module": ("node",), "style": ("flake8",),
 }
 PACKAGES = {
     "cc": ("gcc", "libc6-dev"), "chromedriver": ("chromium-driver",), "chromium": ("chromium",),
-    "flake8": ("python3-flake8",), "man": ("man-db",), "pkg-config": ("pkg-config",), "rustc": ("rustc",),
+    "flake8": ("python3-flake8",), "man": ("man-db",), "node": ("nodejs",), "pkg-config": ("pkg-config",),
+    "rustc": ("rustc",),
 }
 # How many seconds an installation waits for another one, and how many minutes it may take.
 PATIENCE, MINUTES = 600, 30

@@ -59,7 +59,7 @@ CALLED = (
     ("trace", ROOT / "decks/two-adds.deck"),
 )
 # What README.md names that only a checkout has.
-OF_CHECKOUT = re.compile(r"tools/(install|build-library|build-program)")
+OF_CHECKOUT = re.compile(r"tools/(install|build-library|build-module|build-program)")
 WITHOUT_LIBRARY = ("--without", "library")
 # A file of each other part.
 LEFT_OUT = {

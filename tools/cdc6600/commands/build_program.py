@@ -18,15 +18,13 @@ ends with status 1.
 """
 
 import argparse
-import fcntl
 import subprocess
 import tempfile
 import time
-from contextlib import contextmanager
 from pathlib import Path
 
 from cdc6600.building import unproved
-from cdc6600.building.building import PROGRAM, Building, Unproved, ended, put, tell
+from cdc6600.building.building import PROGRAM, Building, Unproved, ended, locked, put, tell
 from cdc6600.building.forecast import MEASURED, MORE
 from cdc6600.building.processes import run
 from cdc6600.crates.kit import checker
@@ -49,19 +47,6 @@ def linked(building, file):
     if ran.status:
         raise Unproved(f"{ran.said.rstrip()}\ncdc6600: {building.top} isn't linked")
     return file
-
-
-@contextmanager
-def locked(file):
-    """Within it no other call builds the same file. The kernel removes the lock of a call that is killed."""
-    file.parent.mkdir(parents=True, exist_ok=True)
-    with open(f"{file}.lock", "wb") as lock:
-        try:
-            fcntl.flock(lock, fcntl.LOCK_EX | fcntl.LOCK_NB)
-        except BlockingIOError:
-            tell(f"another call builds {file}; this one waits for it")
-            fcntl.flock(lock, fcntl.LOCK_EX)
-        yield
 
 
 def source_sum(root, *words):

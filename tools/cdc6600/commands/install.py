@@ -120,7 +120,7 @@ def library_pieces(prefix):
     yield Piece("lib/libcdc6600.a", (folder / "libcdc6600.a").read_bytes())
     yield Piece("include/cdc6600.h", header.encode())
     yield Piece("lib/pkgconfig/cdc6600.pc", page.encode())
-    yield from documents("crates/embedding/examples/*.*")
+    yield from documents("crates/embedding/examples/*.*", "crates/embedding/javascript/*.*")
 
 
 def documents(*patterns):

@@ -22,8 +22,8 @@ The parts, in their order:
   for the largest decks, for those that are cut and bent, and where calls fail, when requests of both kinds are made,
   what a run with and without threads prints for drawn decks, and which events take memory; that a run ends soon beside
   other work; that sources are assembled, that emulators are compared with it, that pages of sessions say what the
-  machine does, that a machine is driven by hand, installed, run many times and called from C; then that forgotten
-  tokens are refused, and that `./cdc6600` builds no program of which a crate isn't proved.
+  machine does, that a machine is driven by hand, installed, run many times and called from C and JavaScript; then that
+  forgotten tokens are refused, and that `./cdc6600` builds no program of which a crate isn't proved.
 
 docs/work/checks.md says what each check looks at; their names are in parts.py. A check that needs a program which isn't
 installed is left out, and that is told. A check that finds nothing says nothing. Where `rt ci` fails nothing more is

@@ -10,7 +10,8 @@ BUILDING = ("spent-tokens", "build-program-test")
 DECKS = (
     "decks", "pages", "assembler", "schedules", "both-kinds", "busy", "threads", "sequential", "large", "mutations",
     "failures", "allocations", "emulators", "trace", "random-sessions", "values", "operate", "scheduling", "exploring",
-    "cycles", "browser", "progress", "habits", "many-jobs", "tool-failures", "embedding",
+    "cycles", "browser", "driving", "progress", "habits", "many-jobs", "tool-failures", "embedding",
+    "module",
 )
 NAMES = (*SMALL, BODIES, *DECKS, *BUILDING)
 # Those whose modules are in the folder of the gate.
