@@ -181,7 +181,7 @@ struct cdc6600_outcome cdc6600_request(struct cdc6600_machine *machine,
 
 /* Prints the instruction that is issued next, as a line with P in octal, the number of the parcel, and the instruction as
  * a listing has it, as in `1 1 IX4 X2-X1`. If none can be taken, the line has a question mark and the reason instead: the
- * refused opcode, `straddle` or `fetch`. */
+ * refused opcode, `straddle` or `fetch`. A pending branch, or a pending store to the word, can still change it. */
 struct cdc6600_outcome cdc6600_next_instruction(struct cdc6600_machine *machine,
                                                 uint8_t *output, size_t output_capacity,
                                                 uint8_t *line, size_t line_capacity);

@@ -43,10 +43,16 @@ export interface Registers {
   halt: number;
   /** Whether an address was out of range. */
   fault: boolean;
+  /** The refused opcode if `halt` is 2: its octal digits f, m and i, or f, m and 0 if it has two. Otherwise 0. */
+  opcode: number;
+  /** The word of the program that the machine holds. */
+  held: bigint | null;
 }
 
 export const DEFAULT_BUDGET: number;
 export const LARGEST_BUDGET: number;
+/** An address at which `advance` never stops. */
+export const NO_ADDRESS: number;
 
 /** Whether this engine can run a module. */
 export function canRun(bytes: BufferSource): boolean;
@@ -84,6 +90,9 @@ export class Machine {
   event(line: Text): Ran;
   /** Makes the event that a drain would make next, or an exchange or an issue; prints its line and the answer. */
   next(): Ran;
+  /** Makes the next event up to `most` times, and stops at the first instruction of the word at `address`, relative to
+   * RA. Returns how many events were made. */
+  advance(most: number, address?: number): number;
   /** Drains the machine; returns how many events that took. */
   drain(): number;
   /** Whether there is a machine and it is drained. */
@@ -92,6 +101,18 @@ export class Machine {
   log(): Ran;
   /** Prints the dump of a drained machine. */
   dump(): Ran;
+  /** Prints a line for each functional unit that an instruction holds: `longadd 3 read IX3 X1+X2`. */
+  units(): Ran;
+  /** Prints a line for each place of the hopper in which a reference waits: `0 1 110 load SA1 B0+10`. */
+  hopper(): Ran;
+  /** Prints a line for each load channel in which a load waits, with its word. */
+  channels(): Ran;
+  /** Prints the numbers of the busy banks, a line each. */
+  banks(): Ran;
+  /** Prints the package of the requested exchange, or nothing. */
+  request(): Ran;
+  /** Prints the instruction that is issued next: `1 1 IX4 X2-X1`. */
+  nextInstruction(): Ran;
   /** The registers as they are now. */
   registers(): Registers;
   /** Words of memory as they are now, from an absolute address on: as many as there are, and at most `count`. */

@@ -18,10 +18,12 @@ export const LARGEST_BUDGET = 10_000_000;
 // The sizes of the header's structs.
 const OUTCOME = 24;
 const MACHINE = 16;
-const REGISTERS = 152;
+const REGISTERS = 160;
 // Sizes that a fault line and the answer to an event don't reach.
 const LINE = 64;
 const ANSWER = 128;
+// An address at which `advance` never stops.
+export const NO_ADDRESS = 0xffffffff;
 // Room for the output of a call at first.
 const ROOM = 4096;
 // The statuses of calls that don't do what they are called for.
@@ -303,8 +305,44 @@ export class Machine {
     return this.#calls.printAll("cdc6600_dump", [this.#address]);
   }
 
+  /** Makes the next event up to so many times, and stops at an address if one is given. Returns how many events were
+   * made. */
+  advance(most, address = NO_ADDRESS) {
+    return Number(this.#calls.call("cdc6600_advance", this.#address, BigInt(most), natural(address)));
+  }
+
   drain() {
     return this.#calls.call("cdc6600_drain", this.#address);
+  }
+
+  /** A line for each functional unit that an instruction holds. */
+  units() {
+    return this.#calls.printAll("cdc6600_units", [this.#address]);
+  }
+
+  /** A line for each place of the hopper in which a reference waits. */
+  hopper() {
+    return this.#calls.printAll("cdc6600_hopper", [this.#address]);
+  }
+
+  /** A line for each load channel in which a load waits. */
+  channels() {
+    return this.#calls.printAll("cdc6600_channels", [this.#address]);
+  }
+
+  /** The numbers of the busy banks, a line each. */
+  banks() {
+    return this.#calls.printAll("cdc6600_banks", [this.#address]);
+  }
+
+  /** The package of the requested exchange, as a line, or nothing. */
+  request() {
+    return this.#calls.printAll("cdc6600_request", [this.#address]);
+  }
+
+  /** The instruction that is issued next, as a line with P, the parcel and its text. */
+  nextInstruction() {
+    return this.#calls.printAll("cdc6600_next_instruction", [this.#address]);
   }
 
   get isDrained() {
@@ -351,6 +389,8 @@ function registersIn(view) {
   const numbers = (from, length) => Array.from({ length }, (_, at) => view.getUint32(from + 4 * at, true));
   const x = Array.from({ length: 8 }, (_, at) => view.getBigUint64(8 * at, true));
   const [p, ra, fl, em] = numbers(128, 4);
-  const [parcel, halt, fault] = [144, 145, 146].map((at) => view.getUint8(at));
-  return { x, a: numbers(64, 8), b: numbers(96, 8), p, ra, fl, em, parcel, halt, fault: fault !== 0 };
+  const [parcel, halt, fault, hasHeld] = [144, 145, 146, 147].map((at) => view.getUint8(at));
+  const held = hasHeld ? view.getBigUint64(152, true) : null;
+  return { x, a: numbers(64, 8), b: numbers(96, 8), p, ra, fl, em, parcel, halt, fault: fault !== 0,
+    opcode: view.getUint16(148, true), held };
 }

@@ -72,6 +72,27 @@ class Node:
         return ran(self.ask("library", name, *given))
 
 
+class Functions:
+    """The functions of the library, with the methods of the class in the example in Python."""
+
+    def __init__(self, node):
+        self.node = node
+
+    def call(self, name, *given):
+        """What a function prints, its fault line and its status."""
+        came = self.node.call(name, *given)
+        return came.printed, came.told, came.status
+
+    def list(self, text):
+        return self.call("list", text)
+
+    def events(self, text):
+        return self.call("events", text)
+
+    def replay(self, text, log):
+        return self.call("replay", text, log)
+
+
 class Machine:
     """A machine that is kept, with the methods of the class in the example in Python."""
 
@@ -107,6 +128,13 @@ class Machine:
     def dump(self):
         return self.call("dump")
 
+    def contents(self, part):
+        """The lines of a part of the machine."""
+        return self.call("nextInstruction" if part == "next_instruction" else part)
+
+    def advance(self, most, *address):
+        return self.node.ask("advance", self.number, most, *address).get("count")
+
     def drain(self):
         return self.node.ask("drain", self.number).get("count")
 
@@ -116,7 +144,9 @@ class Machine:
     def registers(self):
         """The registers, and the status."""
         came = self.node.ask("registers", self.number)
-        found = {**came, "x": [int(it) for it in came["x"]]} if "x" in came else came
+        found = came
+        if "x" in came:
+            found = {**came, "x": [int(it) for it in came["x"]], "has_held": came["held"] != "null"}
         return SimpleNamespace(**found), came.get("status")
 
     def words(self, first, count):

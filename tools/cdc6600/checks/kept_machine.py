@@ -31,6 +31,15 @@ code PS
 start 40
 end
 """
+REFUSED_OPCODE = """core 256
+at 41
+word 00000100000000000000
+word 00000020000000000000
+at 100
+word {:<020}
+start 40
+end
+"""
 # The units in the order of their numbers.
 UNITS = ("branch", "boolean", "shift", "longadd", "divide", "increment1", "increment2")
 
@@ -134,6 +143,13 @@ def contents_of(following, state, log):
     }
 
 
+def is_next_known(following, state):
+    """Whether no pending branch or store can change the instruction that is issued next."""
+    pending = [row for part in (state.units, state.places) for row in part.values()]
+    stores = any(re.match(r"SA[67] |RJ ", following.rows[row].text) for row in pending)
+    return not stores and "branch" not in state.units
+
+
 def next_line(replays, log):
     """The line of the instruction that is issued next after a log."""
     p, parcel = replays.number(log, 0, 1), replays.field(log, 0, 3)
@@ -166,21 +182,23 @@ def faults_of_contents(make, functions, it):
                 machine.event(event.encode())
             state = state.after(following, n)
             wanted = contents_of(following, state, following.logs[n])
+            if not is_next_known(following, state):
+                del wanted["next_instruction"]
             faults += differing(f"the contents after event {n + 1} of {it}, {event}", wanted,
                                 {part: lines_of_contents(machine, part) for part in wanted})
     return faults
 
 
 def faults_of_arrival(make):
-    """The word of a load that waits in its channel, and the held word while a word's instructions are issued."""
+    """The words of loads that wait in their channels, and that a word is held while its instructions are issued."""
     it = session("one-word")
     with make() as machine:
         machine.boot(it.text)
         for line in it.schedule[: it.schedule.index("return 1")]:
             machine.event(line.encode())
         held = machine.registers()[0]
-        wanted = ([f"1 1 {1:020o} SA1 B0+10"], True, 0)
-        return differing(f"the channel of {it}", wanted,
+        wanted = ([f"1 1 {1:020o} SA1 B0+10", f"2 2 {1:020o} SA2 B0+10"], True, 0)
+        return differing(f"the channels of {it}", wanted,
                          (machine.contents("channels")[0].decode().splitlines(), held.has_held, held.opcode))
 
 
@@ -189,8 +207,7 @@ def faults_of_opcodes(make):
     faults = []
     for parcels, opcode in (("30000", 0o300), ("01100", 0o11), ("01300", 0o13)):
         with make() as machine:
-            machine.boot(f"core 256\nat 41\nword 10000000000\nword 20000000000000\nat 100\nword {parcels:<020}\n"
-                         "start 40\nend\n".encode())
+            machine.boot(REFUSED_OPCODE.format(parcels).encode())
             machine.event(b"ask 40")
             machine.advance(1000)
             registers = machine.registers()[0]
@@ -222,7 +239,7 @@ def faults_of_stopping(make):
         while machine.advance(1_000_000, 1):
             registers = machine.registers()[0]
             stops.append((registers.p, registers.parcel, registers.x[1], machine.is_drained()))
-    return differing("the stops of a loop", [(1, 0, 3, True), (1, 0, 2, True), (1, 0, 1, True), (2, 1, 0, True)], stops)
+    return differing("the stops of a loop", [(1, 0, 3, True), (1, 0, 2, True), (1, 0, 1, True), (2, 0, 0, True)], stops)
 
 
 def faults_of_moments(make):

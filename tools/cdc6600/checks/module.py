@@ -42,7 +42,7 @@ from cdc6600.shared.waiting import Missing, run
 
 from . import kept_machine
 from .debian import provide
-from .in_node import CALLS, Machine, Node, flags_for, ran
+from .in_node import CALLS, Functions, Machine, Node, flags_for, ran
 from .kept_machine import MISSING, USAGE, differing
 
 CRATE = ROOT / "crates/embedding"
@@ -129,11 +129,7 @@ class Tried:
 
     def kept_machines(self):
         """The calls of tools/check embedding with a machine that is kept."""
-        def events(text):
-            came = self.node.call("events", text)
-            return came.printed, came.told, came.status
-
-        for work in kept_machine.works(lambda: Machine(self.node), events, decks(), sessions()):
+        for work in kept_machine.works(lambda: Machine(self.node), Functions(self.node), decks(), sessions()):
             self.add(work())
 
     def texts(self):

@@ -54,10 +54,11 @@ const answers = {
   make: () => ({ number: machines.push(library.machine()) - 1 }),
   machine: (number, name, ...given) => machines[number][name](...given),
   drain: (number) => ({ count: machines[number].drain() }),
+  advance: (number, ...given) => ({ count: machines[number].advance(...given) }),
   isDrained: (number) => ({ flag: machines[number].isDrained }),
   registers: (number) => {
     const it = machines[number].registers();
-    return { ...it, x: asWords(it.x) };
+    return { ...it, x: asWords(it.x), held: String(it.held) };
   },
   words: (number, ...given) => ({ words: asWords(machines[number].words(...given)) }),
   // Tries a call of a machine; `forbidden` tries something that can't be tried.
