@@ -1,21 +1,18 @@
 """Texts in display code: the words that DATA has for them."""
 
-import re
-
 from .faults import Wrong, quoted
-from .lines import TEXT
+from .language import LANGUAGE, PATTERNS
 
-# The characters from code 1 on. A text can't have the star.
-CHARACTERS = "ABCDEFGHIJKLMNOPQRSTUVWXYZ0123456789+-*/()$= ,."
-CODES = {character: code for code, character in enumerate(CHARACTERS, 1)}
+# The codes of the characters, from 1 on. A text can't have the star.
+CODES = {character: code for code, character in enumerate(LANGUAGE["characters"], 1)}
 CHARACTER_BITS, OF_A_WORD = 6, 10
 # What follows the last character of a text up to the end of its word.
-FILLS, BEGIN = {"H": CODES[" "], "L": 0}, re.compile(r"[HL]\*")
+FILLS = {letter: CODES.get(character, 0) for letter, character in LANGUAGE["fills"].items()}
 
 
 def is_text(value):
     """Whether a value of DATA begins as a text."""
-    return bool(BEGIN.match(value))
+    return bool(PATTERNS["begin of a text"].match(value))
 
 
 def words_of(value, column):
@@ -23,12 +20,11 @@ def words_of(value, column):
 
     Raises Wrong where it is none."""
     text = value[2:-1]
-    if not (re.fullmatch(TEXT, value) and text):
-        raise Wrong(column, f"{quoted(value)} is no text: expected characters between two stars, and a comma after "
-                    "them")
+    if not (PATTERNS["text"].fullmatch(value) and text):
+        raise Wrong(column, "no text", text=quoted(value))
     for at, character in enumerate(text, column + 2):
         if character not in CODES:
-            raise Wrong(at, f"'{character}' has no display code here: expected capitals, digits, blanks or +-/()$=,.")
+            raise Wrong(at, "no display code", text=character)
     codes = [CODES[character] for character in text]
     codes += [FILLS[value[0]]] * (-len(codes) % OF_A_WORD)
     return [word_of(codes[at : at + OF_A_WORD]) for at in range(0, len(codes), OF_A_WORD)]

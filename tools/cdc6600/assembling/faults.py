@@ -1,16 +1,22 @@
 """What is wrong with a source program."""
 
+from cdc6600.shared.telling import filled
+
+from .language import LANGUAGE
+
+FAULTS = LANGUAGE["faults"]
 # How many faults of a source program are printed.
-MOST = 20
+MOST = LANGUAGE["most faults"]
 # A text of a line is cut in a fault if it is longer.
-LONGEST = 32
+LONGEST = LANGUAGE["longest"]
 
 
 class Wrong(Exception):
-    """What is wrong in a line, with the column where it is found, counted from 1."""
+    """What is wrong in a line, by the name of the fault and what it is about, with the column where it is found,
+    counted from 1."""
 
-    def __init__(self, column, what):
-        super().__init__(what)
+    def __init__(self, column, fault, **given):
+        super().__init__(filled(FAULTS[fault], given))
         self.column = column
 
 
@@ -38,4 +44,5 @@ class Faults:
     def lines(self):
         """A line for each fault, in the order of the source, and a last one if there are too many."""
         lines = [f"{where}: {what}" for where, what in self.placed]
-        return lines[:MOST] + [f"{self.name}: {len(lines) - MOST} more faults"] * (len(lines) > MOST)
+        more = filled(FAULTS["more"], {"count": str(len(lines) - MOST)})
+        return lines[:MOST] + [f"{self.name}: {more}"] * (len(lines) > MOST)

@@ -4,17 +4,17 @@ import re
 from dataclasses import dataclass
 
 from .faults import Wrong, quoted
+from .language import LANGUAGE, PATTERNS
 
-COMMENT = "*"
+COMMENT = LANGUAGE["comment"]
 # A text in display code. Its blanks and commas are characters like others.
-TEXT = r"[HL]\*[^*]*\*"
+TEXT = LANGUAGE["patterns"]["text"]
 # A label from column one, an operation and the gap after it; then operands up to two blanks, a tab or the line's end.
-FORM = re.compile(r"([^ \t]*)[ \t]*([^ \t]*)([ \t]*)")
-OPERANDS = re.compile(rf"(?: ?{TEXT}| ?[^ \t])*")
+FORM, OPERANDS = PATTERNS["line"], PATTERNS["operands"]
 # The operations without operands. Two blanks or a tab after one begin a comment.
-ALONE = ("NO", "PS")
+ALONE = LANGUAGE["alone"]
 # Those whose operands have blanks between them. A tab there is a blank.
-SETTERS, TAB = ("SET", "SHOW"), re.compile(r"\t(?=[^ \t])")
+SETTERS, TAB = LANGUAGE["setters"], PATTERNS["tab"]
 
 
 @dataclass(frozen=True)
@@ -55,8 +55,8 @@ class Line:
         """Raises Wrong for a part with small letters. Those of a byte that is no text, as `\\xff`, don't count."""
         parts = (self.label, 1), (self.operation, self.column), (self.operands, self.operands_column)
         for part, column in parts:
-            if re.search("[a-z]", re.sub(r"\\x..", "", part)):
-                raise Wrong(column, f"{quoted(part)} has small letters: expected capitals")
+            if PATTERNS["small letter"].search(PATTERNS["byte"].sub("", part)):
+                raise Wrong(column, "small letters", text=quoted(part))
 
 
 def read_line(number, text):
@@ -73,8 +73,7 @@ def read_line(number, text):
     operands = OPERANDS.match(TAB.sub(" ", rest) if operation in SETTERS else rest)[0]
     if operation in ALONE:
         if gap == " " and operands:
-            raise Wrong(operands_column, f"{quoted(operands)} doesn't fit {operation}: expected no operands, and two "
-                        "blanks before a comment")
+            raise Wrong(operands_column, "operands of none", text=quoted(operands), operation=operation)
         operands = ""
     return Line(number, text, label, operation, operands, column, operands_column)
 

@@ -7,6 +7,7 @@ from cdc6600.limits import MOST_WORDS
 
 from .display_code import is_text, words_of
 from .faults import Faults, Wrong, quoted
+from .language import LANGUAGE
 from .lines import SETTERS, Line, lines_of, read_line
 from .short_forms import OF_OTHERS
 from .texts import written
@@ -14,13 +15,12 @@ from .values import NAME, REGISTER, WORD_BITS, fitted, value_of, within
 
 PARCELS, PASS = 4, 0o46000
 # After these the next instruction begins a word.
-UNCONDITIONAL = ("JP", "RJ", "PS")
+UNCONDITIONAL = LANGUAGE["unconditional"]
 # The lines about the package, the memory and what is shown. They take no label and no word.
-SETTINGS = ("RA", "FL", "EM", "CORE", "PACKAGE")
-END, START = "END", "START"
+SETTINGS = LANGUAGE["settings"]
+END, START = LANGUAGE["end"], LANGUAGE["start"]
 # The operations that stand for others.
 SHORT = {short.split(" ")[0]: text.split(" ")[0] for text, short in OF_OTHERS}
-ABOVE = " above this line"
 
 
 @dataclass
@@ -119,10 +119,10 @@ class Program:
         """Reads a line."""
         line = read_line(number, text)
         if len(line.fields) > 1 and line.operation not in SETTERS:
-            raise Wrong(line.fields[1][1] - 1, "a blank in the operands: expected none, and two before a comment")
+            raise Wrong(line.fields[1][1] - 1, "blank")
         line.check_letters()
         if self.end and (line.label or line.operation):
-            raise Wrong(1, f"END is in line {self.end}: expected nothing after it")
+            raise Wrong(1, "after the end", line=str(self.end))
         if line.operation == END:
             self.finish(line)
             return
@@ -133,7 +133,7 @@ class Program:
         work = works.get(SHORT.get(line.operation, line.operation))
         is_setting = line.operation in (*SETTINGS, *SETTERS)
         if line.label and (is_setting or line.operation == "ORG"):
-            raise Wrong(1, f"{line.operation} takes no label: expected a blank in column 1")
+            raise Wrong(1, "takes no label", operation=line.operation)
         if line.label or work:
             self.close()
         if line.label:
@@ -150,33 +150,31 @@ class Program:
         """Defines the name in a line's first column."""
         name = line.label
         if not NAME.fullmatch(name):
-            raise Wrong(1, f"{quoted(name)} is no label: expected a capital letter and up to 19 capital letters and "
-                        "digits behind it")
+            raise Wrong(1, "no label", text=quoted(name))
         if REGISTER.fullmatch(name):
-            raise Wrong(1, f"'{name}' is a register: expected another name")
+            raise Wrong(1, "name of a register", name=name)
         if name in self.names:
-            raise Wrong(1, f"'{name}' is defined in line {self.defined[name]} too: expected another name")
+            raise Wrong(1, "defined", name=name, line=str(self.defined[name]))
         self.names[name], self.defined[name] = value, line.number
 
     def known(self, line):
         """The value of a line's operands, by the names that are defined above it."""
         if not line.operands:
-            raise Wrong(line.operands_column, f"no operand after {line.operation}: expected a value")
-        return value_of(line.operands, line.operands_column, self.names, ABOVE)
+            raise Wrong(line.operands_column, "no operand", operation=line.operation)
+        return value_of(line.operands, line.operands_column, self.names, True)
 
     def finish(self, line):
         """Ends the source."""
         if line.label:
-            raise Wrong(1, "END takes no label: expected a blank in column 1")
+            raise Wrong(1, "takes no label", operation=END)
         if line.operands not in ("", START):
-            raise Wrong(line.operands_column, f"{quoted(line.operands)} doesn't fit END: expected {START} or no "
-                        "operands")
+            raise Wrong(line.operands_column, "operands of END", text=quoted(line.operands))
         self.end = line.number
 
     def equal(self, line):
         """Defines a name that isn't a label."""
         if not line.label:
-            raise Wrong(1, "EQU needs a name: expected one in column 1")
+            raise Wrong(1, "no name")
         self.define(line, self.known(line))
 
     def move(self, line):
@@ -193,8 +191,7 @@ class Program:
     def data(self, line):
         """Places the words of DATA."""
         if not line.operands:
-            raise Wrong(line.operands_column, f"no operands after {line.operation}: expected values with commas "
-                        "between them")
+            raise Wrong(line.operands_column, "no values", operation=line.operation)
         for text, column in line.values:
             for word in words_of(text, column) if is_text(text) else [None]:
                 self.place(line, Given(self.address, line, text, column, word))
@@ -230,8 +227,7 @@ class Program:
         """Places a word."""
         other = self.words.get(word.address)
         if other:
-            raise Wrong(line.column, f"word {word.address:o} is placed by line {other.number} too: expected another "
-                        "ORG")
+            raise Wrong(line.column, "placed", address=f"{word.address:o}", line=str(other.number))
         self.words[word.address] = word
         self.begins.setdefault(line.number, word.address)
         self.top = max(self.top, word.address + 1)

@@ -4,14 +4,15 @@ from functools import partial
 
 from cdc6600.limits import LEAST_WORDS, MOST_SHOWS, MOST_WORDS, PACKAGE_WORDS
 
-from .faults import Wrong, quoted
+from .faults import FAULTS, Wrong, quoted
+from .language import LANGUAGE
 from .lines import SETTERS, Line
 from .program import START
 from .values import INDEX_BITS, REGISTER, WORD_BITS, fitted, octal, value_of, within
 
-DEFAULTS = {"RA": 0o100, "EM": 0o10000, "PACKAGE": 0o40}
+DEFAULTS = LANGUAGE["defaults"]
 # Where the package has its numbers: the word and its bit 0 for those of the table's first part, by docs/use/formats.md.
-MIDDLE, HEAD = 36, {"P": 0, "RA": 1, "FL": 2, "EM": 3}
+MIDDLE, HEAD = 36, LANGUAGE["head"]
 A_BITS, FIRST_X = 18, 8
 
 
@@ -43,13 +44,13 @@ class Settings:
         return value_of(text, column, self.program.names)
 
     def fields(self, line, least, most, wanted):
-        """The fields of a line's operands, so many."""
+        """The fields of a line's operands, so many; `wanted` is the name of what is expected."""
         fields = line.fields
         if len(fields) < least:
             column = line.operands_column + len(line.operands)
-            raise Wrong(column, f"too few operands after {line.operation}: {wanted}")
+            raise Wrong(column, "too few", operation=line.operation, wanted=FAULTS[wanted])
         if len(fields) > most:
-            raise Wrong(fields[most][1], f"{quoted(fields[most][0])} is too much: {wanted}")
+            raise Wrong(fields[most][1], "too much", text=quoted(fields[most][0]), wanted=FAULTS[wanted])
         return fields
 
     def read(self, line):
@@ -58,9 +59,9 @@ class Settings:
             (self.set if line.operation == SETTERS[0] else self.show)(line)
             return
         name = line.operation
-        text, column = self.fields(line, 1, 1, "expected a value")[0]
+        text, column = self.fields(line, 1, 1, "a value")[0]
         if name in self.lines:
-            raise Wrong(line.column, f"{name} is in line {self.lines[name].number} too: expected it once")
+            raise Wrong(line.column, "given twice", operation=name, line=str(self.lines[name].number))
         self.lines[name] = line
         value = self.value(text, column)
         if name in ("CORE", "PACKAGE"):
@@ -72,20 +73,19 @@ class Settings:
 
     def set(self, line):
         """Reads a line that sets a register."""
-        wanted = "expected a register and a value"
-        (name, at), (text, column) = self.fields(line, 2, 2, wanted)
+        (name, at), (text, column) = self.fields(line, 2, 2, "a register")
         if not REGISTER.fullmatch(name) or name == "B0":
-            raise Wrong(at, f"{quoted(name)} can't be set: expected A0 to A7, B1 to B7 or X0 to X7")
+            raise Wrong(at, "can't be set", text=quoted(name))
         if name in self.registers:
-            raise Wrong(at, f"{name} is set twice: expected one value for it")
+            raise Wrong(at, "set twice", name=name)
         self.registers[name] = 0
         self.registers[name] = fitted(self.value(text, column), WORD_BITS if name[0] == "X" else INDEX_BITS, column)
 
     def show(self, line):
         """Reads a line that names words to be shown."""
-        fields = self.fields(line, 1, 2, "expected an address, and how many words if they are several")
+        fields = self.fields(line, 1, 2, "an address")
         if len(self.shown) == MOST_SHOWS:
-            raise Wrong(line.column, f"a line too many of SHOW: expected at most {MOST_SHOWS}")
+            raise Wrong(line.column, "too many", most=str(MOST_SHOWS))
         address = self.value(*fields[0])
         count = within(self.value(*fields[1]), 1, MOST_WORDS, fields[1][1]) if len(fields) > 1 else 1
         self.shown.append((line, address, count))
@@ -93,30 +93,28 @@ class Settings:
     def look_for_start(self):
         """Looks for the label where the program begins."""
         if START not in self.program.names:
-            raise Wrong(1, f"there is no label {START}: expected one where the program begins")
+            raise Wrong(1, "no start")
 
     def judge_memory(self, column):
         """Judges the size of the memory."""
         if self.needed > MOST_WORDS:
-            raise Wrong(column, f"the program needs {self.needed:o} words of memory: expected at most {MOST_WORDS:o}")
+            raise Wrong(column, "too large", needed=f"{self.needed:o}", most=f"{MOST_WORDS:o}")
         self.size = self.values.get("CORE", self.size)
         if self.size < self.needed:
-            raise Wrong(column, f"the program needs {self.needed:o} words of memory: expected at least as many of CORE")
+            raise Wrong(column, "small core", needed=f"{self.needed:o}")
 
     def judge_package(self, column):
         """Judges whether the package lies apart from the program."""
         taken = [self.reference + address for address in self.program.words]
         taken = [address for address in taken if 0 <= address - self.package < PACKAGE_WORDS]
         if taken:
-            raise Wrong(column, f"the package at {self.package:o} has word {min(taken):o}, and so has the program: "
-                        "expected another PACKAGE or RA")
+            raise Wrong(column, "package", package=f"{self.package:o}", word=f"{min(taken):o}")
 
     def judge_shown(self, column, address, count):
         """Judges the words to be shown."""
         last = address + count - 1
         if address < -self.reference or self.reference + last >= self.size:
-            raise Wrong(column, f"words {octal(address)} to {octal(last)} don't all lie in memory: expected fewer "
-                        "words or a larger CORE")
+            raise Wrong(column, "shown", first=octal(address), last=octal(last))
 
     @property
     def package_words(self):

@@ -7,18 +7,19 @@ from functools import lru_cache
 
 from cdc6600.shared.instructions import FIELDS, ROWS, Instruction, Row
 
-from .faults import Wrong, quoted
+from .faults import FAULTS, Wrong, quoted
+from .language import LANGUAGE, PATTERNS
 from .short_forms import each_short_form
 from .values import INDEX_BITS, fitted, value_of, within
 
 # The operations that aren't instructions.
-OTHERS = "DATA, CON, BSS, BSSZ, EQU, ORG, RA, FL, EM, CORE, PACKAGE, SET, SHOW or END"
+OTHERS = LANGUAGE["others"]
 # What a value is written for, and the largest number of jk.
-VALUES, COUNT, MOST_COUNT = ("K", "jk"), "jk", 0o77
+VALUES, COUNT, MOST_COUNT = ("K", "jk"), "jk", LANGUAGE["most count"]
 # The value of a short form. It may have a plus in front, doesn't begin with a register, and has no comma.
-SHORT_VALUE = "(?![+-]?[ABX][0-7](?![A-Z0-9]))[^,]+"
+SHORT_VALUE = LANGUAGE["patterns"]["short value"]
 # The operations that the program, too, calls floating point.
-FLOATING_POINT = re.compile("[FDRNZUP]X[0-7]")
+FLOATING_POINT = PATTERNS["floating point"]
 
 
 def form_of(text, value=".+"):
@@ -98,8 +99,8 @@ class Written:
 
 def expected(forms):
     """What operands some forms have."""
-    shown = [form.shown or "no operands" for form in forms]
-    return "expected " + " or ".join([", ".join(shown[:-1]), shown[-1]] if len(shown) > 1 else shown)
+    shown = [form.shown or FAULTS["none"] for form in forms]
+    return " or ".join([", ".join(shown[:-1]), shown[-1]] if len(shown) > 1 else shown)
 
 
 def fitting(form, operation, operands, column):
@@ -135,15 +136,15 @@ def written(line):
     found = forms_of(line.operation)
     if not found:
         if FLOATING_POINT.fullmatch(line.operation):
-            raise Wrong(line.column, f"{quoted(line.statement)} is floating point, which isn't implemented")
-        raise Wrong(line.column, f"{quoted(line.operation)} is no operation: expected an instruction or {OTHERS}")
+            raise Wrong(line.column, "floating point", text=quoted(line.statement))
+        raise Wrong(line.column, "no operation", text=quoted(line.operation), others=OTHERS)
     for form, operation in sorted(found, key=lambda it: it[0].rank):
         operands = form.operands.fullmatch(line.operands)
         if operands and form.stands_for:
             return written(rewritten(line, form.stands_for, {**operation.groupdict(), **operands.groupdict()}))
         if operands:
             return fitting(form, operation, operands, line.operands_column)
-    expectation = expected([form for form, _ in found])
+    forms = expected([form for form, _ in found])
     if not line.operands:
-        raise Wrong(line.operands_column, f"no operands after {line.operation}: {expectation}")
-    raise Wrong(line.operands_column, f"{quoted(line.operands)} doesn't fit {line.operation}: {expectation}")
+        raise Wrong(line.operands_column, "no operands", operation=line.operation, forms=forms)
+    raise Wrong(line.operands_column, "doesn't fit", text=quoted(line.operands), operation=line.operation, forms=forms)

@@ -1,47 +1,45 @@
 """Values in a source program: sums of numbers and names."""
 
-import re
-
 from .faults import Wrong, quoted
+from .language import LANGUAGE, PATTERNS
 
-NAME, REGISTER = re.compile(r"[A-Z][A-Z0-9]{0,19}"), re.compile(r"[ABX][0-7]")
+NAME, REGISTER = PATTERNS["name"], PATTERNS["register"]
 # The first term of a sum may have a minus; each further one has a sign.
-FIRST, FURTHER = re.compile(r"(-?)([^+-]*)"), re.compile(r"([+-])([^+-]*)")
-OCTAL, DECIMAL = re.compile(r"([0-7]+)B?"), re.compile(r"([0-9]+)D")
+FIRST, FURTHER = PATTERNS["first term"], PATTERNS["further term"]
+OCTAL, DECIMAL = PATTERNS["octal"], PATTERNS["decimal"]
 # No number of a term is longer.
-DIGITS = 24
+DIGITS = LANGUAGE["digits"]
 INDEX_BITS, WORD_BITS = 18, 60
-EXPECTED = "expected a number or a name"
 
 
 def number_of(term, column):
     """The number that a term is which begins with a digit."""
     octal, decimal = OCTAL.fullmatch(term), DECIMAL.fullmatch(term)
     if len(term) > DIGITS:
-        raise Wrong(column, f"a number of {len(term)} characters: expected at most {DIGITS}")
+        raise Wrong(column, "long number", count=str(len(term)), most=str(DIGITS))
     if octal:
         return int(octal[1], 8)
     if decimal:
         return int(decimal[1])
-    raise Wrong(column, f"{quoted(term)} is no number: expected octal digits, or decimal ones with D behind them")
+    raise Wrong(column, "no number", text=quoted(term))
 
 
-def term_of(term, column, names, where):
-    """The number that a term stands for. `where` says where a name that isn't known should be defined."""
+def term_of(term, column, names, above):
+    """The number that a term stands for. `above` says that a name should be defined above its line."""
     if not term:
-        raise Wrong(column, f"a value is missing: {EXPECTED}")
+        raise Wrong(column, "missing")
     if term[0].isdecimal() and term.isascii():
         return number_of(term, column)
     if REGISTER.fullmatch(term):
-        raise Wrong(column, f"'{term}' is a register: {EXPECTED}")
+        raise Wrong(column, "register", name=term)
     if not NAME.fullmatch(term):
-        raise Wrong(column, f"{quoted(term)} is no value: {EXPECTED}")
+        raise Wrong(column, "no value", text=quoted(term))
     if term not in names:
-        raise Wrong(column, f"'{term}' isn't defined{where}: expected a label or a name of EQU")
+        raise Wrong(column, "undefined", name=term, above=above)
     return names[term]
 
 
-def value_of(text, column, names, where=""):
+def value_of(text, column, names, above=False):
     """The number that a text stands for, which begins at this column.
 
     Raises Wrong where it is no value."""
@@ -49,7 +47,7 @@ def value_of(text, column, names, where=""):
     while at < len(text) or not at:
         sign, term = (FURTHER if at else FIRST).match(text, at).groups()
         at += len(sign)
-        value = term_of(term, column + at, names, where)
+        value = term_of(term, column + at, names, above)
         total += -value if sign == "-" else value
         at += len(term)
     return total
@@ -65,7 +63,7 @@ def within(number, least, most, column):
 
     Raises Wrong where it isn't."""
     if not least <= number <= most:
-        raise Wrong(column, f"{octal(number)} is out of range: expected {octal(least)} to {octal(most)}")
+        raise Wrong(column, "range", number=octal(number), least=octal(least), most=octal(most))
     return number
 
 

@@ -9,8 +9,8 @@ from contextlib import suppress
 from cdc6600.shared.waiting import Missing, run
 
 NEEDED = {
-    "browser": ("chromium", "chromedriver"), "emulators": ("rustc",), "habits": ("man",),
-    "embedding": ("cc", "pkg-config", "rustc"), "module": ("node",), "style": ("flake8",),
+    "browser": ("chromium", "chromedriver"), "driving": ("chromium", "chromedriver"), "emulators": ("rustc",),
+    "embedding": ("cc", "pkg-config", "rustc"), "habits": ("man",), "module": ("node",), "style": ("flake8",),
 }
 PACKAGES = {
     "cc": ("gcc", "libc6-dev"), "chromedriver": ("chromium-driver",), "chromium": ("chromium",),

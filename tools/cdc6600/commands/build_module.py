@@ -6,7 +6,7 @@
     cdc6600-32.wasm    the same for engines without 64-bit addresses, such as Node 20
     cdc6600.mjs        the functions for JavaScript
     cdc6600.d.mts      their types, for TypeScript and editors
-    drive.html         a page on which a machine is driven by hand, with the module in it
+    cdc6600.html       a page on which a machine is driven by hand, with the module in it
 
 cdc6600-32.wasm is made by `wasm-opt` of Debian's package binaryen. If that isn't installed, it is left out, and the
 tool says so.
@@ -26,13 +26,13 @@ from pathlib import Path
 from cdc6600.building.building import ended, tell
 from cdc6600.crates.kit import checker
 from cdc6600.crates.table import Table
-from cdc6600.driving.driving import page
+from cdc6600.driving.driving import NAME, page
 from cdc6600.module import unproved
 from cdc6600.module.kept import NARROW, WIDE, kept
 from cdc6600.module.module import LOWERING, Making, marked
 from cdc6600.shared.program import ROOT
 
-CALLS, PAGE = ROOT / "crates/embedding/javascript", "drive.html"
+CALLS = ROOT / "crates/embedding/javascript"
 
 
 def unproved_modules():
@@ -62,7 +62,7 @@ def work():
             (folder / name).write_bytes(module)
     for file in sorted(CALLS.iterdir()):
         shutil.copy(file, folder)
-    (folder / PAGE).write_text(page(modules[NARROW] or modules[WIDE]), encoding="utf-8")
+    (folder / NAME).write_text(page(modules[NARROW] or modules[WIDE]), encoding="utf-8")
     return 0
 
 

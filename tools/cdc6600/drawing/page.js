@@ -1,9 +1,7 @@
-// The cursor of a page: it steps through the events, and shows for each one its words and the panel of the machine.
-"use strict";
+// The cursor of a page: it steps through the events, and shows for each one its words and, by panel.js, the machine.
 
 const session = JSON.parse(document.getElementById("session").textContent);
 const steps = session.steps;
-const byId = (id) => document.getElementById(id);
 let shown = 0;
 let isOpen = true;
 let noting = 0;
@@ -15,80 +13,11 @@ steps.reduce((before, step) => {
   return values[values.length - 1];
 }, session.values);
 
-// Whether something is shown otherwise than before the event.
-const differs = (one, other) => JSON.stringify(one) !== JSON.stringify(other);
-
-function mark(element, row, before, holds) {
-  element.classList.toggle("taken", row !== undefined);
-  element.classList.toggle("changed", differs(row, before));
-  element.classList.toggle("holds", row !== undefined && holds.includes(row[0]));
-}
-
-function showPart(part, step, before) {
-  for (const element of document.querySelectorAll(`.${part} tbody tr`)) {
-    const key = element.id.slice(part.length + 1);
-    const row = step[part][key];
-    mark(element, row, before[part][key], step.holds);
-    [...element.cells].slice(1).forEach((cell, at) => { cell.textContent = row ? row[at] : ""; });
-  }
-}
-
-function showMachine(step, before) {
-  for (const [key, text] of Object.entries(step.machine)) {
-    const element = byId(`machine-${key}`);
-    element.textContent = text;
-    element.classList.toggle("changed", text !== before.machine[key]);
-  }
-}
-
-function showBanks(step, before) {
-  for (const element of document.querySelectorAll(".cells li")) {
-    const key = element.id.slice("banks-".length);
-    mark(element, step.banks[key], before.banks[key], step.holds);
-  }
-  const busy = Object.entries(step.banks).map(([bank, row]) => `${bank} by ${row[1]} (reservation ${row[0]})`);
-  byId("busy").textContent = busy.length ? `Busy: ${busy.join(", ")}.` : "None is busy.";
-}
-
-function showRegisters(step, before) {
-  const rows = Object.entries(step.registers).map(([register, row]) => {
-    const element = document.createElement("tr");
-    element.id = `registers-${register}`;
-    const head = document.createElement("th");
-    head.scope = "row";
-    head.textContent = register;
-    const cells = row.map((text) => {
-      const cell = document.createElement("td");
-      cell.textContent = text;
-      return cell;
-    });
-    element.append(head, ...cells);
-    mark(element, row, before.registers[register], step.holds);
-    return element;
-  });
-  byId("registers").replaceChildren(...rows);
-  byId("registers").parentElement.hidden = rows.length === 0;
-  byId("unreserved").hidden = rows.length > 0;
-}
-
-function showValues(after, changed) {
-  for (const element of document.querySelectorAll(".values tbody tr")) {
-    const name = element.id.slice("values-".length);
-    after[name].forEach((text, at) => { element.cells[at + 1].textContent = text; });
-    element.classList.toggle("changed", name in changed);
-  }
-}
-
 // The machine after the event or, while its answer is hidden, before it.
 function showPanel(step, before) {
   const now = isOpen ? step : { ...before, holds: [] };
-  for (const part of ["units", "places", "channels"]) {
-    showPart(part, now, before);
-  }
-  showMachine(now, before);
-  showValues(isOpen ? values[shown] : values[shown - 1] ?? session.values, isOpen ? step.values : {});
-  showBanks(now, before);
-  showRegisters(now, before);
+  const [after, changed] = isOpen ? [values[shown], step.values] : [values[shown - 1] ?? session.values, {}];
+  showParts(now, before, after, changed);
   byId("title-panel").textContent = `The machine ${isOpen ? "after" : "before"} this event`;
 }
 

@@ -1,7 +1,8 @@
 """Writes a session that was followed as a page of HTML, which needs nothing beside itself.
 
 Without scripts the page has the picture and a table of all events. With them it has a cursor that steps through the
-events, and for each step the panel of the machine. page.html is the frame, page.css how it looks, page.js the cursor.
+events, and for each step the panel of the machine. page.html is the frame, page.css how it looks, page.js the cursor;
+panel.html and panel.js are the panel, which the page that drives a machine (tools/cdc6600/driving) has too.
 """
 
 import html
@@ -21,7 +22,7 @@ from .judging import states_of
 from .panel import ROOM, Panel, holding
 from .pictures import HELD, pieces, units
 from .tables import card, reservations, totals
-from .telling import sentence
+from cdc6600.shared.telling import sentence
 from .values import REGISTERS, all_values, changes, number_of
 from .words import Words
 
@@ -84,12 +85,12 @@ class Page:
         following, steps = self.following, self.steps()
         return Template(read("page.html")).substitute(
             title=html.escape(self.title), description=self.lead(), links=self.links,
-            style=read("page.css") + picture_style(), script=read("page.js"), picture=self.picture(),
+            style=read("page.css") + picture_style(), script=read("panel.js") + read("page.js"),
+            picture=self.picture(),
             pieces=pieces(self.form), held=units(self.unit_form), held_by_units=HELD,
             labels=self.labels(), heads=self.heads(), corner=self.corner(),
             legends="".join(map(legend_of, self.form.legends)),
-            count=len(steps), banks=bank_cells(), **{part: table_of(part) for part in HEADS},
-            values=tables_of_values(self.values[0]),
+            count=len(steps), panel=panel_frame(self.values[0]),
             above=self.tables() if self.account else "", below="" if self.account else self.tables(),
             rows="".join(row_of(n, step, self.words.told(n)) for n, step in enumerate(steps)),
             ending=html.escape(self.ending()), data=json.dumps(self.data(steps)).replace("<", "\\u003c"),
@@ -205,6 +206,12 @@ def picture_style():
     """The rules by which the picture has the page's colours, light or dark."""
     bars = "".join(f'svg rect[fill="{colour}"] {{ fill: var(--{name}); }}\n' for colour, name in COLOUR_NAMES.items())
     return bars + f'svg text[fill="{REFUSED}"] {{ fill: var(--refused); }}\n'
+
+
+def panel_frame(values):
+    """The frame of the panel, with a row for each of these values. panel.js fills it."""
+    parts = {part: table_of(part) for part in HEADS}
+    return Template(read("panel.html")).substitute(banks=bank_cells(), values=tables_of_values(values), **parts)
 
 
 def table_of(part):

@@ -8,8 +8,8 @@ from cdc6600.limits import BANKS
 
 from .following import PLACES
 from .instructions import NAMES, UNITS
+from .sentences import said
 from .states import CHANNELS, RUNNING
-from .telling import enumerated
 
 
 class Panel:
@@ -31,24 +31,24 @@ class Panel:
 
     def machine(self):
         """How the machine itself is: whether it runs, what is issued next, whether an exchange is asked for."""
-        asked = f"asked for, package at {self.state.asked}" if self.state.asked else "none asked for"
+        asked = said("panel exchange", package=self.state.asked)
         return {"Machine": self.condition(), "Next": self.next(), "Exchange": asked, "Log": self.judge.log}
 
     def condition(self):
         """Whether it runs."""
-        running = "running" if self.state.halt == RUNNING else f"halted ({self.state.halt})"
-        return f"{running}, faulted by reservation {self.state.fault}" if self.state.fault else running
+        halt, fault = self.state.halt, self.state.fault
+        return said("panel state", halt="" if halt == RUNNING else halt, fault=str(fault or ""))
 
     def next(self):
         """The next instruction, where that can be said."""
         if self.state.halt != RUNNING:
-            return "none"
+            return said("panel none")
         if "branch" in self.state.units:
-            return "open until Branch stores"
+            return said("panel branch")
         judge = self.judge
-        parcel, address = judge.replays.field(judge.log, 0, 3), judge.replays.number(judge.log, 0, 1)
-        where = f"word {address:o}, parcel {parcel}" if judge.is_held else f"word {address:o}, to be fetched"
-        return f"{judge.next_text or 'out of range'} ({where})"
+        parcel = judge.replays.field(judge.log, 0, 3) if judge.is_held else ""
+        return said("panel next", text=judge.next_text, address=f"{judge.replays.number(judge.log, 0, 1):o}",
+                    parcel=parcel)
 
     def units(self):
         """The units that are reserved, each with how far its reservation is."""
@@ -58,23 +58,24 @@ class Panel:
         """How far a reservation is, and which operands it waits for."""
         phase = self.state.phases[row]
         awaited = self.judge.awaited(row) if phase == "issued" else []
-        waits = enumerated(f"{register} ({producer})" for register, producer in awaited)
-        return f"{phase}, awaits {waits}" if waits else phase
+        waits = [said("awaits", register=register, producer=str(producer)) for register, producer in awaited]
+        return said("panel phase", phase=phase, awaited=waits)
 
     def places(self):
         """The places of the hopper that are taken, each with the word that is referred to."""
         found = {}
         for place, row in sorted(self.state.places.items()):
             address = self.rows[row].address
-            found[str(place)] = self.labelled(row, f"word {address:o}, bank {address % BANKS}")  # E13
+            word = said("panel word", address=f"{address:o}", bank=str(address % BANKS))  # E13
+            found[str(place)] = self.labelled(row, word)
         return found
 
     def channels(self):
         """The load channels that a load has."""
         found, at = {}, {row: place for place, row in self.state.places.items()}
         for channel, row in sorted(self.state.channels.items()):
-            is_loaded = row in self.state.loaded
-            found[str(channel)] = self.labelled(row, "to return" if is_loaded else f"waits in place {at[row]}")
+            place = "" if row in self.state.loaded else str(at[row])
+            found[str(channel)] = self.labelled(row, said("panel load", place=place))
         return found
 
     def banks(self):

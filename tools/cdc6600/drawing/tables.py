@@ -6,7 +6,7 @@ from cdc6600.timing.reservations import BY_CYCLE, BY_EVENT, HEADS
 from cdc6600.timing.waits import CAUSES
 
 from .instructions import NAMES
-from .telling import sentence
+from cdc6600.shared.telling import sentence
 
 # The rows of totals, and the heads of their waits.
 COUNTS = {

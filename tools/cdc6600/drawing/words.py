@@ -1,4 +1,4 @@
-"""Says in words what an event did, or why it was refused.
+"""Says in words what an event did, or why it was refused, by the sentences of words.json.
 
 Values are those that `replay` prints: by the program's theorem they are the machine's, whatever the order of events.
 """
@@ -8,8 +8,9 @@ from cdc6600.limits import BANKS
 from .instructions import NAMES, kind_of, operands_of, results_of
 from .judging import Judge, Refusal
 from .refusing import why
+from .sentences import reservation, reservations, said
 from .states import RUNNING
-from .telling import enumerated, of, plural, reservation, reservations, sentence
+from cdc6600.shared.telling import sentence
 
 
 class Words:
@@ -29,7 +30,7 @@ class Words:
 
     def told(self, n):
         """What is said of the event n, from 0, and that it is refused, if it is."""
-        return f"Refused. {self.said(n)}" if self.following.is_refused(n) else self.said(n)
+        return said("refused", why=self.said(n)) if self.following.is_refused(n) else self.said(n)
 
     def said(self, n):
         """What is said of the event n, from 0."""
@@ -42,7 +43,7 @@ class Words:
             "return": self.load_return, "bank": self.bank, "ask": self.ask, "exchange": self.exchange,
             "ppread": self.peripheral_read, "ppwrite": self.peripheral_write, "end": self.end, "drain": self.drain,
         }
-        return tell[kind](n, *fields)
+        return sentence(tell[kind](n, *fields))
 
     def refused(self, n, event, answer):
         """Why an event is refused. Where the rules would say something else, the answer alone is told."""
@@ -55,15 +56,15 @@ class Words:
         """A register's value after a log, without noughts in front."""
         return self.replays.register(log, register)
 
-    def values(self, log, registers):
-        """The values of registers after a log."""
-        return enumerated(f"{register} is {self.value(log, register)}" for register in registers)
+    def about(self, row):
+        """A reservation."""
+        return reservation(self.rows, row)
 
     def position(self, log):
         """Where the program is after a log."""
-        parcel = int(self.replays.field(log, 0, 3))
-        within = f", parcel {parcel}" if parcel else ""
-        return f"P {self.replays.number(log, 0, 1):o}{within}"
+        parcel = self.replays.field(log, 0, 3)
+        address = f"{self.replays.number(log, 0, 1):o}"
+        return said("position", address=address, parcel=parcel if int(parcel) else "")
 
     def issue(self, n):
         """An issue, to a unit or without one."""
@@ -71,136 +72,112 @@ class Words:
         if len(answered) == 1:
             return self.issue_alone(n)
         row = int(answered[2])
-        it, judge = self.rows[row], self.judge(n + 1)
-        said = [f"{it.text} is issued to {NAMES[it.unit]}, as reservation {row}."]
-        results = results_of(it.text)
-        if results:
-            said.append(f"{enumerated(results)} {plural(results, 'is', 'are')} reserved for it.")
-        awaited = judge.awaited(row)
-        if awaited:
-            producers = sorted({producer for _, producer in awaited})
-            still = f"{plural(awaited, 'is', 'are')} still to come {of(producers)}"
-            said.append(f"{enumerated(register for register, _ in awaited)} {still}; that doesn't hold its issue.")
-        if kind_of(it.text) == "branch":
-            said.append("Nothing else is issued until its store event.")
-        return " ".join(said)
+        it, awaited = self.rows[row], self.judge(n + 1).awaited(row)
+        return said(
+            "issue", text=it.text, unit=NAMES[it.unit], number=str(row), results=results_of(it.text),
+            awaited=[register for register, _ in awaited], branch=kind_of(it.text) == "branch",
+            producers=[str(producer) for producer in sorted({producer for _, producer in awaited})],
+        )
 
     def issue_alone(self, n):
         """An issue that reserves no unit: a pass, or one that halts the machine."""
         halt, text = self.states[n + 1].halt, self.replays.instruction(self.log(n))
         if halt == RUNNING:
-            return f"{text} is issued. A pass takes no unit and does nothing."
-        halted = f"and halts the machine ({halt}). Nothing more is issued until an exchange."
+            return said("issue of a pass", text=text)
+        return said("issue that halts", what=self.halting(n, text), halt=halt)
+
+    def halting(self, n, text):
+        """The issue that halts the machine."""
         if text is None:
-            return f"The word at {self.position(self.log(n))} is out of range. Its fetch counts as an issue, {halted}"
+            return said("issue out of range", position=self.position(self.log(n)))
         if text.startswith("?straddle"):
-            return f"An instruction of two parcels begins in the last one of its word. It counts as issued, {halted}"
-        if text.startswith("?"):
-            return f"The machine refuses opcode {text[1:]} by name. It counts as issued, {halted}"
-        return f"{text} is issued. It takes no unit, {halted}"
+            return said("issue of a straddle")
+        return said("issue of an opcode", opcode=text[1:]) if text[0] == "?" else said("issue of a stop", text=text)
 
     def read(self, n, unit):
         """A unit reads."""
         row = self.states[n].units[unit]
         it = self.rows[row]
-        operands = operands_of(it.text)
-        if not operands:
-            return f"{NAMES[unit]} goes on with {reservation(self.rows, row)}, which has no operand to wait for."
-        values = self.values(it.before, operands)
-        return f"{NAMES[unit]} reads the operands of {reservation(self.rows, row)} in one step: {values}."
+        values = [said("is", register=register, value=self.value(it.before, register))
+                  for register in operands_of(it.text)]
+        return said("read" if values else "read of nothing", unit=NAMES[unit], it=self.about(row), values=values)
 
     def finish(self, n, unit):
         """A unit has its value."""
         row = self.states[n].units[unit]
         it, results = self.rows[row], results_of(self.rows[row].text)
         if kind_of(it.text) == "branch":
-            return f"{NAMES[unit]} has worked out where the program goes on after {reservation(self.rows, row)}."
-        made = f": {self.value(it.after, results[0])} for {results[0]}" if results else ", which B0 discards"
-        return f"{NAMES[unit]} has the value of {reservation(self.rows, row)}{made}."
+            return said("finish of a branch", unit=NAMES[unit], it=self.about(row))
+        register = results[0] if results else ""
+        value = self.value(it.after, register) if results else ""
+        return said("finish", unit=NAMES[unit], it=self.about(row), register=register, value=value)
 
     def store(self, n, unit):
         """A unit stores, and is free."""
         row = self.states[n].units[unit]
         it = self.rows[row]
-        results = results_of(it.text)[:1]
-        becomes = [f"{register} becomes {self.value(it.after, register)}" for register in results]
-        becomes += [f"the program goes on at {self.position(it.after)}"] * (kind_of(it.text) == "branch")
-        said = [sentence(f"{enumerated([*becomes, f'{NAMES[unit]} is free'])}.")]
-        if it.refers:
-            said.append(self.entered(n, row))
-        return " ".join(said)
+        becomes = [said("becomes", register=register, value=self.value(it.after, register))
+                   for register in results_of(it.text)[:1]]
+        becomes += [said("goes on", position=self.position(it.after))] * (kind_of(it.text) == "branch")
+        becomes.append(said("free", unit=NAMES[unit]))
+        return said("store", becomes=becomes, reference=self.entered(n, row) if it.refers else "")
 
     def entered(self, n, row):
         """What a reference does at the store event of its unit."""
         it, after = self.rows[row], self.states[n + 1]
-        what = "load" if it.channel else "store"
+        channel = str(it.channel or "")
         place = next((place for place, other in after.places.items() if other == row), None)
-        if place is not None:
-            still = f" X{it.channel} stays reserved until it returns." if it.channel else ""
-            return f"Its {what}, of word {self.word(row)}, waits in place {place} of the hopper.{still}"
-        loaded = f"+0 waits in channel {it.channel} at once" if it.channel else "nothing is stored"
-        fault = " Exit mode makes that a fault: nothing is issued until an exchange." if after.fault == row else ""
-        return f"Its {what} is out of range and takes no place: {loaded}.{fault}"
+        if place is None:
+            return said("reference out of range", channel=channel, fault=after.fault == row)
+        return said("reference", channel=channel, word=self.word(row), place=str(place))
 
     def word(self, row):
         """The word of a reservation's reference, with its bank."""
         address = self.rows[row].address
-        return f"{address:o} in bank {address % BANKS}"  # E13
+        return said("word", address=f"{address:o}", bank=str(address % BANKS))  # E13
 
     def accept(self, n, place):
         """A bank takes a reference."""
         row = self.states[n].places[int(place)]
         it = self.rows[row]
-        taken = f"Bank {it.address % BANKS} takes the reference of {reservation(self.rows, row)} and is busy."  # E13
-        if it.channel:
-            value = self.value(it.after, f"X{it.channel}")
-            return f"{taken} Word {it.address:o} is {value}, which waits in channel {it.channel}."
-        stored = "the link word" if it.text.startswith("RJ") else self.value(it.after, f"X{it.text[2]}")
-        return f"{taken} Word {it.address:o} becomes {stored}."
+        loaded = self.value(it.after, f"X{it.channel}") if it.channel else ""
+        stored = said("link") if it.text.startswith("RJ") else self.value(it.after, f"X{it.text[2]}")
+        return said("accept", bank=str(it.address % BANKS), it=self.about(row), address=f"{it.address:o}",  # E13
+                    loaded=loaded, channel=str(it.channel), stored=stored)
 
     def load_return(self, n, channel):
         """A load returns."""
         row = self.states[n].channels[int(channel)]
         register = f"X{int(channel)}"
-        value = self.value(self.rows[row].after, register)
-        return f"The load of {reservation(self.rows, row)} returns: {register} becomes {value}. Its channel is free."
+        return said("return", it=self.about(row), register=register, value=self.value(self.rows[row].after, register))
 
     def bank(self, _n, bank):
         """A bank is freed."""
-        return f"Bank {int(bank)} is free again."
+        return said("bank", bank=str(int(bank)))
 
     def ask(self, n, _package):
         """An exchange is asked for."""
-        held = "" if self.states[n].halt != RUNNING else " The machine goes on to issue until no word is held."
-        return f"An exchange with the package at {self.states[n + 1].asked} is asked for.{held}"
+        return said("ask", package=self.states[n + 1].asked, runs=self.states[n].halt == RUNNING)
 
     def exchange(self, n):
         """An exchange is made."""
         log = self.log(n + 1)
-        area = f"RA {self.replays.number(log, 2, 1):o} and FL {self.replays.number(log, 2, 3):o}"
-        swapped = f"The registers and the package at {self.states[n].asked} are exchanged."
-        return f"{swapped} The program that is brought in begins at {self.position(log)}, with {area}."
+        return said("exchange", package=self.states[n].asked, position=self.position(log),
+                    reference=f"{self.replays.number(log, 2, 1):o}", length=f"{self.replays.number(log, 2, 3):o}")
 
     def peripheral_read(self, n, address):
         """A peripheral processor reads."""
         word = self.following.answers[n].split(" ")[1].lstrip("0") or "0"
-        return f"A peripheral processor reads word {int(address, 8):o}: it is {word}."
+        return said("ppread", address=f"{int(address, 8):o}", word=word)
 
     def peripheral_write(self, _n, address, word):
         """A peripheral processor writes."""
-        return f"A peripheral processor writes {int(word, 8):o} to word {int(address, 8):o}."
+        return said("ppwrite", address=f"{int(address, 8):o}", word=f"{int(word, 8):o}")
 
     def end(self, n):
         """The schedule ends."""
-        pending = self.states[n].pending
-        if not pending:
-            return "The schedule ends with everything carried out: the dump follows."
-        have = plural(pending, "has", "have")
-        return f"The schedule ends, and {reservations(self.rows, pending)} {have} effects still to come: no dump."
+        return said("end", pending=reservations(self.rows, self.states[n].pending))
 
     def drain(self, n):
         """The machine is drained."""
-        pending = self.states[n].pending
-        if not pending:
-            return "Nothing is pending: the dump follows."
-        return f"What is still to come {of(pending)} is carried out, oldest first, and the dump follows."
+        return said("drain", numbers=[str(row) for row in self.states[n].pending])

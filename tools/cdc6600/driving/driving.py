@@ -1,31 +1,37 @@
-"""Writes the page on which a machine is driven by hand: one file with the module and the examples in it."""
+"""Writes the page that drives a machine in a browser: one file with the module, the examples and the sentences in it.
+
+The page has the panel of the pages of sessions (tools/cdc6600/drawing): its frame, its look and its sentences. Its own
+parts are in this folder. following.js follows what the library doesn't tell yet.
+"""
 
 import base64
+import hashlib
 import json
 import re
+from itertools import takewhile
 from pathlib import Path
 from string import Template
 
+from cdc6600 import limits
+from cdc6600.assembling.language import LANGUAGE
+from cdc6600.assembling.texts import FORMS
+from cdc6600.drawing import page as drawing
+from cdc6600.drawing.following import WORDS
+from cdc6600.drawing.instructions import KINDS, NAMES
+from cdc6600.drawing.sentences import SENTENCES
+from cdc6600.drawing.values import REGISTERS
+from cdc6600.shared.decks import FOLDER as DECKS
+from cdc6600.shared.decks import cells_of, decks, sessions, shown_by_sessions
+from cdc6600.shared.instructions import ROWS
 from cdc6600.shared.program import ROOT
+from cdc6600.timing.reservations import HEADS
 
-FOLDER, LOOK = Path(__file__).resolve().parent, ROOT / "tools/cdc6600/drawing/page.css"
-WRAPPER = ROOT / "crates/embedding/javascript/cdc6600.mjs"
+NAME = "cdc6600.html"
+FOLDER, WRAPPER = Path(__file__).resolve().parent, ROOT / "crates/embedding/javascript/cdc6600.mjs"
+SCRIPTS = ("sentences", "replays", "following", "words", "driven", "timeline", "assembler", "page")
 EXPORTED = re.compile(r"^export (\{.*\};)?", re.MULTILINE)
-# The examples, with what each one shows.
-EXAMPLES = (
-    ("run/two-adds-code.deck", "A sum and a difference: conflicts of the first and the second order."),
-    ("sessions/conflicts.session", "The same with a schedule: press Undo to go back through it."),
-    ("run/sum-less-one.deck", "The program of the tutorial: two loads from one bank, a sum, two stores, a branch."),
-    ("sessions/held-result.session", "A result that is held: the third order."),
-    ("sessions/one-bank.session", "Two loads from one bank."),
-    ("sessions/out-of-turn.session", "A store and a load of one word."),
-    ("sessions/full-hopper.session", "All places of the hopper are taken."),
-    ("sessions/store-into-code.session", "A store into the program."),
-    ("sessions/asking.session", "Exchanges that are asked for."),
-    ("run/loop.deck", "The sum of a table, by a loop."),
-    ("run/subroutine.deck", "Return jumps."),
-    ("run/all-rows.deck", "Each instruction once."),
-)
+# The example that is chosen first.
+FIRST = "two-adds-code"
 
 
 def read(file):
@@ -33,14 +39,88 @@ def read(file):
     return file.read_text(encoding="utf-8")
 
 
+def plain(cell):
+    """What a cell of a page in Markdown says, as a sentence."""
+    said = re.sub(r"\[([^]]*)\]\([^)]*\)", r"\1", cell).replace("`", "")
+    return said[:1].upper() + said[1:] + "." * (not said.endswith("."))
+
+
+def shown_by_decks():
+    """What each deck shows, by its name, as decks/README.md says."""
+    rows = [cells for cells in cells_of(DECKS / "README.md", "Decks") if cells[0].startswith("`")]
+    return {name: cells[1] for cells in rows for name in re.findall(r"`([^`]+)`", cells[0])}
+
+
+def examples():
+    """The examples by their kinds: the names, what they show, and their texts."""
+    shown, sources = shown_by_decks(), sorted((DECKS / "source").glob("*.source"))
+    ordered = sorted(decks(), key=lambda it: (it.name != FIRST, it.name))
+    return {
+        "Decks": [example(it.file, plain(shown[it.name])) for it in ordered],
+        "Source programs": [example(file, comment(read(file))) for file in sources],
+        "Sessions": [example(it.file, plain(shown_by_sessions()[it.name])) for it in sessions()],
+    }
+
+
+def comment(text):
+    """The first sentence of the comment with which a source program begins, or nothing."""
+    said = " ".join(line[2:] for line in takewhile(lambda line: line.startswith("* "), text.splitlines()))
+    return f"{said.split('. ')[0].removesuffix('.')}." if said else ""
+
+
+def example(file, about):
+    """An example, which is offered by the name of its file."""
+    return {"name": file.name, "about": about, "text": read(file)}
+
+
+def instructions():
+    """The rows of the instruction table as the scripts use them."""
+    return [{"code": row.code, "text": row.text, "pattern": pattern(row.pattern), "long": row.is_long,
+             "operands": row.operands} for row in ROWS.values()]
+
+
+def forms():
+    """The forms of instructions in a source program, as the assembler in the page uses them."""
+    return [{"operation": pattern(it.operation), "operands": pattern(it.operands), "shown": it.shown,
+             "code": it.row.code if it.row else "", "standsFor": it.stands_for} for it in FORMS]
+
+
+def pattern(compiled):
+    """A pattern as JavaScript writes it."""
+    return compiled.pattern.replace("(?P<", "(?<")
+
+
+def given():
+    """What the scripts read."""
+    sizes = {"least": limits.LEAST_WORDS, "words": limits.MOST_WORDS, "package": limits.PACKAGE_WORDS,
+             "shows": limits.MOST_SHOWS, "banks": limits.BANKS, "shown": WORDS}
+    return {"sentences": SENTENCES, "names": NAMES, "kinds": KINDS, "instructions": instructions(), "forms": forms(),
+            "language": LANGUAGE, "limits": sizes, "examples": examples()}
+
+
+def script(module):
+    """The whole script, with a module's bytes."""
+    wrapper = f"(() => {{\n{EXPORTED.sub('', read(WRAPPER))}\nreturn {{ Library, canRun }};\n}})()"
+    data = json.dumps(given(), ensure_ascii=True, separators=(",", ":"))
+    begins = f'const MODULE = "{base64.b64encode(module).decode()}";\nconst GIVEN = {data};\n'
+    texts = [f"const {{ Library, canRun }} = {wrapper};\n", *(read(FOLDER / f"{name}.js") for name in SCRIPTS)]
+    return (drawing.read("panel.js") + begins + "".join(texts)).replace("</", "<\\/")
+
+
+def panel():
+    """The panel's frame. The script replaces the row of the word 0 by rows for the words that a deck shows."""
+    return drawing.panel_frame(dict.fromkeys([*REGISTERS, "000000"], "0"))
+
+
 def page(module):
     """The text of the page with a module's bytes."""
-    decks = [{"name": name.split("/")[1], "about": about, "text": read(ROOT / "decks" / name)}
-             for name, about in EXAMPLES]
-    wrapper = f"(() => {{\n{EXPORTED.sub('', read(WRAPPER))}\nreturn {{ Library, canRun }};\n}})()"
-    script = (
-        f'"use strict";\nconst MODULE = "{base64.b64encode(module).decode()}";\n'
-        f"const DECKS = {json.dumps(decks)};\nconst {{ Library, canRun }} = {wrapper};\n{read(FOLDER / 'page.js')}"
+    style, text = drawing.read("page.css") + read(FOLDER / "page.css"), script(module)
+    heads = "".join(f'<th scope="col">{drawing.sentence(head)}</th>' for head in HEADS)
+    return Template(read(FOLDER / "page.html")).substitute(
+        style=style, script=text, panel=panel(), heads=heads, style_sum=sum_of(style), script_sum=sum_of(text),
     )
-    style = read(LOOK) + read(FOLDER / "page.css")
-    return Template(read(FOLDER / "page.html")).substitute(style=style, script=script.replace("</", "<\\/"))
+
+
+def sum_of(text):
+    """The checksum by which the policy allows a style or a script."""
+    return f"sha256-{base64.b64encode(hashlib.sha256(text.encode()).digest()).decode()}"

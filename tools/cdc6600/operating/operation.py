@@ -7,8 +7,9 @@ from pathlib import Path
 
 from cdc6600.drawing.following import ENDS, EVENT, Fault, Following, Session
 from cdc6600.drawing.judging import Judge, Refusal
+from cdc6600.drawing.sentences import reservation, said
 from cdc6600.drawing.states import RUNNING, State
-from cdc6600.drawing.telling import plural, reservation
+from cdc6600.shared.telling import plural
 from cdc6600.drawing.values import value_lines, values_of
 from cdc6600.drawing.words import Words
 from cdc6600.shared.writing import put, why_not_written
@@ -106,7 +107,7 @@ class Operation:
     def said(self):
         """The last event, its answer and what it means, or that there was none."""
         if not self.events:
-            return "The machine is booted: halted by a stop, with empty registers. It waits for an exchange."
+            return said("booted")
         n = len(self.events) - 1
         is_dump = self.is_over and self.following.answers[n] != "NOT DRAINED"
         answer = "the dump" if is_dump else self.following.answers[n]

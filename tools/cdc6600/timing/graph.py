@@ -9,7 +9,7 @@ from string import Template
 
 from cdc6600.drawing.forms import SVG
 from cdc6600.drawing.page import read
-from cdc6600.drawing.telling import plural
+from cdc6600.shared.telling import plural
 
 FOLDER = Path(__file__).resolve().parent
 # The columns and rows of the graph in pixels, and up to how many states it is drawn.

@@ -3,7 +3,7 @@
 import sys
 
 from cdc6600.drawing.following import Fault
-from cdc6600.drawing.telling import plural
+from cdc6600.shared.telling import plural
 
 from .totals import Totals
 from .waits import CAUSES

@@ -9,7 +9,7 @@ from dataclasses import dataclass
 
 from cdc6600.drawing.following import AFTER
 from cdc6600.drawing.judging import Judge, Refusal, states_of
-from cdc6600.drawing.telling import numbered
+from cdc6600.shared.telling import numbered
 
 from .clock import ORDER, Clock, Feed
 from .times import NO_TIMES

@@ -1,0 +1,120 @@
+"""Scripts with which tools/check driving uses the page that drives a machine."""
+
+READY = "return document.documentElement.dataset.ready || null;"
+
+# A call of the library, with texts in base 64.
+CALL = r"""
+const [what, ...given] = arguments;
+const ran = attempt(() => library[what](...given.map((it) => typeof it === "string" ? atob(it) : it)));
+return [ran.status, btoa(ran.printed), btoa(ran.told)];
+"""
+
+# Starts a program.
+START = r"""
+document.getElementById("text").value = atob(arguments[0]);
+document.getElementById("start").click();
+"""
+
+# The session that the page has made, what it shows after each event, and its table of the reservations.
+STEPS = r"""
+const names = ["event", "answer", "words", "refused", "holds", "machine", "units", "places", "channels", "banks",
+  "registers"];
+const steps = driven.steps.map((step) => ({ ...Object.fromEntries(names.map((name) => [name, step[name]])),
+  values: Object.fromEntries(step.changed.map((name) => [name, [step.values[name], numberOf(step.values[name])]])) }));
+return [driven.session(), steps, driven.reservations()];
+"""
+
+# Makes events that are drawn: mostly some that the machine accepts, sometimes any one or a peripheral access. Now and
+# then the last events are taken back.
+WALK = r"""
+let [seed, count] = arguments;
+const draw = (n) => { seed = (seed * 1103515245 + 12345) % 2147483648; return Math.floor(seed / 65536) % n; };
+const others = ["read shift", "store branch", "accept 3", "return 2", "bank 7", "exchange", "ask 777777", "ppread 111",
+  "ppwrite 112 17", "ppread 777777", "issue", "accept 9", "bank 40", "return 0"];
+for (let k = 0; k < count; k++) {
+  const offers = driven.offers();
+  const made = offers.filter(({ event, answer }) => !answer.startsWith("E") && !event.startsWith("ask"));
+  const kind = draw(8);
+  const some = kind === 0 ? others : (kind === 1 || made.length === 0 ? offers : made).map((it) => it.event);
+  driven.make(some[draw(some.length)]);
+  if (k % 15 === 14) { driven.undo(1 + draw(3)); }
+}
+show();
+"""
+
+# Presses an event's button by the keyboard, twice; what has the focus after each time.
+PRESSED = r"""
+document.getElementById("start").click();
+document.getElementById("may").firstElementChild.focus();
+return [1, 2].map(() => { document.activeElement.click(); return document.activeElement.tagName; });
+"""
+
+# What is told of a refused program, and what of it is marked.
+FAULT = r"""
+const text = document.getElementById("text");
+return [document.getElementById("fault").textContent, text.value.slice(text.selectionStart, text.selectionEnd)];
+"""
+
+# The link of the session.
+LINK = r"""
+document.getElementById("link").click();
+return document.querySelector("#linked a").href;
+"""
+
+# The session as the file that is kept: its text and its name.
+KEPT = r"""
+const [make, click] = [URL.createObjectURL, HTMLAnchorElement.prototype.click];
+let kept = null;
+let name = "";
+URL.createObjectURL = (blob) => { kept = blob; return "about:blank"; };
+HTMLAnchorElement.prototype.click = function () { name = this.download; };
+document.getElementById("keep-session").click();
+[URL.createObjectURL, HTMLAnchorElement.prototype.click] = [make, click];
+return kept.text().then((text) => [text, name]);
+"""
+
+# Opens a file with a text.
+OPENED = r"""
+const [text, name] = arguments;
+const given = new DataTransfer();
+given.items.add(new File([text], name));
+document.getElementById("file").files = given.files;
+document.getElementById("file").dispatchEvent(new Event("change"));
+"""
+
+# What the page says of the program.
+ABOUT = "return document.getElementById('about').textContent;"
+
+# Goes on until something; the number of events with the last one, or after issues the refusal of a further one.
+GO_ON = r"""
+const [kind, what] = arguments;
+document.getElementById("end").value = kind;
+document.getElementById("what").value = what;
+if (kind === "refused") {
+  ["ask 40", "exchange"].forEach((it) => act(it));
+}
+document.getElementById("until").requestSubmit();
+return kind === "refused" ? driven.answerTo("issue").split(" ")[0] : `${driven.steps.length} ${driven.last.event}`;
+"""
+
+# Chooses an example and makes so many next events; what the listing marks as next.
+LISTED = r"""
+const [name, count] = arguments;
+const example = document.getElementById("example");
+example.value = [...example.options].find((it) => it.textContent === name).value;
+example.dispatchEvent(new Event("change"));
+for (let made = 0; made < count; made++) {
+  act(made < 2 ? driven.next() : "issue");
+}
+const row = document.querySelector("#listing .here");
+return (row.querySelector("mark") ?? row.cells[2]).textContent;
+"""
+
+# What the page makes of source programs: for each its faults, or its deck and its listing.
+ASSEMBLED = r"""
+const [texts, name] = arguments;
+return texts.map((text) => {
+  const { faults, deck = "", listing = [] } = assemble(text);
+  return [faults.map((it) => `${name}:${/^\d+:/.test(it) ? "" : " "}${it}`), deck, listing];
+});
+"""
