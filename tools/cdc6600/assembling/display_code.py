@@ -1,10 +1,16 @@
-"""Texts in display code: the words that DATA has for them."""
+"""Display code, in which a word has ten characters: the words that DATA has for a text, and the text of a word."""
 
 from .faults import Wrong, quoted
 from .language import LANGUAGE, PATTERNS
 
-# The codes of the characters, from 1 on. A text can't have the star.
-CODES = {character: code for code, character in enumerate(LANGUAGE["characters"], 1)}
+# The characters from code 1 on, which all sites have. A text of DATA can't have the star.
+CHARACTERS = LANGUAGE["characters"]
+CODES = {character: code for code, character in enumerate(CHARACTERS, 1)}
+# The 64-character set from code 0 on, in ASCII, as the manual of GNU recode 3.6 has it, section "Control Data's Display
+# Code". In the 63-character set the colon is code 63, and code 0 is no character. It is shown as a blank.
+SET_64 = f":{CHARACTERS}#[]%\"_!&'?<>@\\^;"
+SET_63 = SET_64.translate(str.maketrans(":%", " :"))
+SETS = {"63": SET_63, "64": SET_64}
 CHARACTER_BITS, OF_A_WORD = 6, 10
 # What follows the last character of a text up to the end of its word.
 FILLS = {letter: CODES.get(character, 0) for letter, character in LANGUAGE["fills"].items()}
@@ -36,3 +42,8 @@ def word_of(codes):
     for code in codes:
         word = (word << CHARACTER_BITS) + code
     return word
+
+
+def text_of(word, characters=SET_64):
+    """The ten characters of a word, given as its 20 octal digits."""
+    return "".join(characters[int(word[at : at + 2], 8)] for at in range(0, len(word), 2))

@@ -4,6 +4,7 @@ The assembler reads a page when it is imported, which takes longer than many a r
 """
 
 ENDING = ".source"
+MOST_LINES = 1_000_000
 
 
 class Refused(Exception):
@@ -14,10 +15,14 @@ class Refused(Exception):
 
 
 def read_source(name, content):
-    """The program and the settings of a source program, by its name and its bytes."""
+    """The program and the settings of a source program, by its name and its bytes.
+
+    Raises Refused if it has too many lines."""
     from .program import Program
     from .settings import Settings
 
+    if content.count(b"\n") > MOST_LINES:
+        raise Refused(f"{name}:{MOST_LINES + 1}:1", f"a source program has at most {MOST_LINES} lines")
     program = Program(name, content.decode("utf-8", "backslashreplace"))
     return program, Settings(program)
 

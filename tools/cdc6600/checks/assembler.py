@@ -8,6 +8,8 @@
   decks that are below.
 - The short forms are those of docs/use/instructions.md, and give the deck of the texts for which they stand.
 - Each tool that takes a deck does with a source program what it does with its deck, and tells its first fault.
+- A session of a source program is shown with the source line of each issue, by tools/beside and on a page, and with no
+  lines of another program.
 - Further errors than the first 20 are counted, a file that can't be read gives a line, and a reader that leaves or a
   full disk ends the tool as it should.
 
@@ -18,6 +20,7 @@ Run it after a change of that tool, of docs/use/instructions.md, or of docs/use/
 """
 
 import itertools
+import json
 import os
 import re
 import subprocess
@@ -27,6 +30,7 @@ from functools import partial
 from pathlib import Path
 
 from cdc6600.assembling.short_forms import OF_OTHERS, TABLE, each_short_form
+from cdc6600.drawing.page import DATA
 from cdc6600.shared.decks import FOLDER, PAGES, cells_of, decks
 from cdc6600.shared.instructions import FIELDS, PAGE, ROWS
 from cdc6600.shared.program import ROOT, Program, Ran, tell
@@ -115,6 +119,8 @@ CALLS = {
     "schedule": ["--summary"], "explore": [], "operate": ["--plain"], "trace": [], "compare": ["PROGRAM replay"],
     "gallery": ["FOLDER/pages"], "run-jobs": ["FOLDER/jobs"], "timeline": [], "beside": [],
 }
+# A source program, and the line of each instruction that is issued: none for the passes that fill a word.
+LINED, LINES = "START  SX1 2\nLOOP   SX1 X1-1\n       NZ  X1,LOOP\n       PS\n", [1, 0, 0, 2, 3, 2, 3, 4]
 TYPED = b"next\nnext\nnext\nquit\nquit\n"
 # A source and its deck.
 WHOLE = (
@@ -263,6 +269,28 @@ def faults_of_program(program, file):
     return faults + differing(f"the lines in the listing of {source}", file.read_text().splitlines(), shown)
 
 
+def faults_of_lines(folder):
+    """Shows the session of a source program with its lines, and with those of another one; the faults."""
+    source, other, file = folder / "lined.source", SOURCES / "total.source", folder / "lined.session"
+    source.write_text(LINED, encoding="ascii")
+    file.write_bytes(called("schedule", [], source).printed)
+    faults, texts = [], [" ".join(line.split()) for line in LINED.splitlines()]
+    beside = called("beside", ["--source", source], file).printed.decode().splitlines()
+    page = json.loads(DATA.search(called("timeline", ["--html", "--source", source], file).printed.decode())[1])
+    of_issues = [line for line in beside if line.startswith("issue ")]
+    of_steps = [step["words"] for step in page["steps"] if step["event"] == "issue"]
+    for what, shown, end in (("tools/beside", of_issues, ""), ("the page", of_steps, ".")):
+        found = [re.search(r"line (\d): (.*)$", line) for line in shown]
+        faults += differing(f"the lines that {what} has", LINES, [int(it[1]) if it else 0 for it in found])
+        faults += differing(f"the texts that {what} has", [f"{texts[it - 1]}{end}" for it in LINES if it],
+                            [it[2] for it in found if it])
+    for tool, *words in (("beside", "--source", other), ("timeline", "--html", "--source", other)):
+        ran = called(tool, words, file)
+        is_told = ran.told.decode() == f"tools/{tool}: {other.with_suffix('.deck')}: its deck isn't that of {file}\n"
+        faults += [] if ran.status == 1 and not ran.printed and is_told else [f"another program's lines: {ran}"]
+    return faults
+
+
 def faults_of_placed(text, wanted):
     """Assembles a source, and compares the words that it places."""
     came = assembled("-", text=f"START NO\n{text}".encode())
@@ -336,6 +364,7 @@ def works(program, folder):
     yield from (partial(faults_of_whole, program, *row) for row in WHOLE)
     yield from (partial(faults_of_call, *row) for row in calls(folder))
     yield from (partial(faults_of_tool, program, folder, *row) for row in CALLS.items())
+    yield partial(faults_of_lines, folder)
     yield from (faults_of_listing, faults_of_many, faults_of_short_forms)
 
 

@@ -5,7 +5,8 @@
   `timed` schedule of tools/schedule is between the two.
 - An exploration that is wrong is found out by the machine: one without an event that is accepted, one with an event
   that is refused, and one with another dump.
-- The page has a dot for each state.
+- The page has a dot for each state, and the registers of the states of a shortest and a longest schedule are those of
+  their sessions.
 - Bad input gives one line.
 
 It prints a line for each fault, and ends with status 1 then; else it prints nothing. CDC6600 may name the program to
@@ -22,6 +23,8 @@ import tempfile
 from concurrent.futures import ThreadPoolExecutor
 
 from cdc6600.drawing.following import Fault, Following, Session, text_of
+from cdc6600.drawing.judging import states_of
+from cdc6600.drawing.values import REGISTERS, all_values
 from cdc6600.shared.program import ROOT, Program, tell
 from cdc6600.shared.waiting import faults_found, run
 from cdc6600.timing.clock import clocked
@@ -83,14 +86,34 @@ def counts_of(exploration):
 
 def faults_of_moment(program, session, moment):
     """Whether an order of events is accepted, and has its cycles by the clock."""
-    text = "\n".join([*session.text.split("\n")[: session.deck_end], *moment.events, "end", ""])
-    following = Following(program, Session(session.file, text), None, None)
-    following.follow()
+    following = followed(program, session, moment.events)
     refused = [event for n, event in enumerate(following.session.events) if following.is_refused(n)]
     cycles = clocked(following, read_times())
     last = max(n for n, event in enumerate(moment.events) if not event.startswith("bank"))
     end = cycles[-1] if last == len(moment.events) - 1 else cycles[last]
     return [f"{refused} are refused, and it ends at {end}, not {moment.end}"] * bool(refused or end != moment.end)
+
+
+def followed(program, session, events):
+    """A session of a deck with these events, followed to its end."""
+    text = "\n".join([*session.text.split("\n")[: session.deck_end], *events, "end", ""])
+    following = Following(program, Session(session.file, text), None, None)
+    following.follow()
+    return following
+
+
+def faults_of_values(program, session, exploration, data):
+    """Compares the registers that the page has for the states of the shortest and the longest schedule with those after
+    each event of their sessions; the faults."""
+    faults, paths = [], Graph(exploration, "deck", []).paths
+    for name, moment in zip(("shortest", "longest"), exploration.extremes()):
+        following = followed(program, session, moment.events)
+        for number, values in zip(paths[name], all_values(following, states_of(following))):
+            wanted = [f"{it} {int(values[it], 8):o}" for it in REGISTERS if int(values[it], 8)]
+            text = f"registers, in octal: {', '.join([*wanted, 'all others 0'])}"
+            came = data[number]["has"][-1]
+            faults += [f"state {number} has the {came}, and not the {text}"] * (came != text)
+    return faults
 
 
 def faults_of_deck(program, name):
@@ -110,6 +133,7 @@ def faults_of_deck(program, name):
     data = json.loads(re.search(r'<script type="application/json" id="data">(.*)</script>', page)[1])
     drawn = page.count("<circle "), len(data), sum(len(it["edges"]) for it in data)
     faults += [f"the page has {drawn} dots, states and events"] * (drawn != (counts[0], *counts[:2]))
+    faults += faults_of_values(program, session, exploration, data)
     return [f"{name}: {fault}" for fault in faults]
 
 

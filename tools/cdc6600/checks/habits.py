@@ -54,9 +54,9 @@ COMPLETED = (
 CALLED = (
     ("assemble", ROOT / "decks/source/sorting.source"), ("beside", "conflicts"), ("compare", "--help"),
     ("completions", "bash"), ("conformance", "--help"), ("explore", ROOT / "decks/run/jump.deck"), ("gallery", "pages"),
-    ("operate", "--help"), ("random-deck", "7"), ("run-jobs", "jobs", ROOT / "decks/two-adds.deck"),
-    ("schedule", ROOT / "decks/two-adds.deck"), ("timeline", ROOT / "decks/sessions/conflicts.session"),
-    ("trace", ROOT / "decks/two-adds.deck"),
+    ("image", "--help"), ("operate", "--help"), ("random-deck", "7"),
+    ("run-jobs", "jobs", ROOT / "decks/two-adds.deck"), ("schedule", ROOT / "decks/two-adds.deck"),
+    ("timeline", ROOT / "decks/sessions/conflicts.session"), ("trace", ROOT / "decks/two-adds.deck"),
 )
 # What README.md names that only a checkout has.
 OF_CHECKOUT = re.compile(r"tools/(install|build-library|build-module|build-program)")

@@ -9,7 +9,7 @@ results of each with the files beside it.
   calls at once run each deck once. A call that is killed leaves no lock, and no part of a dump becomes a dump. One that
   is interrupted leaves no part, and neither does a full disk. Another program's results count as not done, and so do
   those of a program that ends with 0 without a dump, or with 1 without a fault line.
-- The script for Slurm, with more tasks than decks, and two of its tasks again.
+- The script for Slurm, with more tasks than decks, two of its tasks again, and with another number of tasks.
 
 It says nothing if all is right, otherwise a line for each fault. CDC6600 may name the program to try.
 
@@ -323,28 +323,41 @@ def faults_of_programs(folder):
     return faults + differing("files without a result", ["one.job"], folder.files("programs"))
 
 
-def faults_of_tasks(folder):
-    """Runs the page's script for Slurm on fewer decks than it has tasks, and two tasks again; the faults. The variables
-    are those that Slurm sets."""
-    lines, decks_of_page = lines_of(PAGE), folder.room / "decks/run"
+def script_of_page():
+    """The page's script for Slurm, and the first and the last number of its tasks."""
+    lines = lines_of(PAGE)
     first = lines.index("#!/bin/sh")
-    (folder.room / "jobs.sh").write_text("\n".join(lines[first : lines.index("```", first)]), encoding="utf-8")
+    numbers = re.search(r"`sbatch --array=(\d+)-(\d+) ", "\n".join(lines))
+    return "\n".join(lines[first : lines.index("```", first)]), *map(int, numbers.groups())
+
+
+def faults_of_tasks(folder):
+    """Runs the page's script for Slurm on fewer decks than it has tasks; two of its tasks again; and with two tasks,
+    numbered from 1 on. The faults. The variables are those that Slurm sets."""
+    (script, first, last), decks_of_page = script_of_page(), folder.room / "decks/run"
     (folder.room / "tools").symlink_to(ROOT / "tools")
     decks_of_page.mkdir()
     names, faults = ["a", "b", "c"], []
     for name in names:
         (decks_of_page / f"{name}.deck").write_text(f"{name}\n", encoding="utf-8")
-    for what, tasks, wanted in (("all tasks", range(10), names), ("two tasks again", (3, 7), ["c"])):
+    for what, count, tasks, wanted in (("all tasks", 10, range(first, last + 1), names),
+                                       ("two tasks again", 10, (3, 7), ["c"]), ("two tasks", 2, (1, 2), names)):
         folder.notes.write_bytes(b"")
-        array = {"COUNT": len(tasks), "MIN": min(tasks), "MAX": max(tasks)}
-        slurm = {f"SLURM_ARRAY_TASK_{name}": str(number) for name, number in array.items()}
-        for task in tasks:
-            own = {**folder.environment, **slurm, "SLURM_ARRAY_TASK_ID": str(task), "SLURM_CPUS_PER_TASK": "2"}
-            ran = run(["sh", "jobs.sh"], cwd=folder.room, env=own, capture_output=True)
-            faults += differing(f"the status of task {task} of {what}", 0, ran.returncode)
+        (folder.room / "jobs.sh").write_text(script.replace("% 10", f"% {count}"), encoding="utf-8")
+        for name in wanted:
+            (folder.room / JOBS / f"{name}.status").unlink(missing_ok=True)
+        faults += [fault for task in tasks for fault in faults_of_task(folder, what, task, tasks)]
         faults += differing(f"the decks of {what}", wanted, folder.noted())
-        (folder.room / JOBS / "c.status").unlink(missing_ok=True)
     return faults
+
+
+def faults_of_task(folder, what, task, tasks):
+    """Runs the script as one of some tasks; the faults."""
+    array = {"COUNT": len(tasks), "MIN": min(tasks), "MAX": max(tasks), "ID": task}
+    slurm = {f"SLURM_ARRAY_TASK_{name}": str(number) for name, number in array.items()}
+    own = {**folder.environment, **slurm, "SLURM_CPUS_PER_TASK": "2"}
+    ran = run(["sh", "jobs.sh"], cwd=folder.room, env=own, capture_output=True)
+    return differing(f"the status of task {task} of {what}", 0, ran.returncode)
 
 
 def main():

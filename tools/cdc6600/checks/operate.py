@@ -3,10 +3,11 @@
 A whole session is driven on the terminal's screen and one by lines, each with events that are offered and typed,
 refused ones, events that are taken back, a line that is none, and a save. Values, past events, the listing of a source
 program, help, the completion of what is typed, the commands `next` and `through`, the keys that change a line, a
-terminal that is resized, and files that aren't written over are tried as well. What was answered on the way has to be
-what `cdc6600 events` answers to the saved session, and tools/timeline has to draw it. A run that is interrupted or
-ended by a signal has to leave the terminal as it was. A file that isn't there, a refused deck, a terminal that is too
-small or none, and a program that is missing or dies have to give one line and a status.
+terminal that is resized, windows that have room for the registers, and files that aren't written over are tried as
+well. What was answered on the way has to be what `cdc6600 events` answers to the saved session, and tools/timeline has
+to draw it. A run that is interrupted or ended by a signal has to leave the terminal as it was. A file that isn't there,
+a refused deck, a terminal that is too small or none, and a program that is missing or dies have to give one line and a
+status.
 
 It says nothing where all is right, else what was awaited and what came. CDC6600 may name the program to ask.
 
@@ -21,6 +22,9 @@ import tempfile
 from contextlib import closing
 from pathlib import Path
 
+from cdc6600.operating.commands import Commands
+from cdc6600.operating.operation import Operation
+from cdc6600.operating.screen import Screen
 from cdc6600.shared.decks import deck
 from cdc6600.shared.program import ROOT, Program, tell
 from cdc6600.shared.waiting import Missing, run
@@ -247,6 +251,43 @@ def resized(_program, _folder):
         return ended_as(terminal, 0, "", "a terminal that is resized")
 
 
+class Window:
+    """A window of curses that keeps the lines that are put into it."""
+
+    encoding = "utf-8"
+
+    def __init__(self):
+        self.lines = {}
+
+    def addstr(self, line, _column, text, _look):
+        """Puts a text into a line."""
+        self.lines[line] = text.rstrip(" ")
+
+
+def roomy(program, _folder):
+    """Draws windows of several heights after some events; the faults. The registers are below the events if there is
+    room for them all."""
+    operation = Operation(program, str(DECK.file), DECK.text.decode())
+    faults, least, windows = [], None, {}
+    with closing(operation):
+        for _ in range(7):
+            operation.make(operation.next_event())
+        for height in range(LINES, LINES + 13):
+            windows[height] = window = Window()
+            Screen(window, Commands(operation, None)).draw_all(height)
+        values = [line.rstrip(" ") for line in operation.value_lines()[:8]]
+        offers = len(operation.offers())
+    for height, window in windows.items():
+        lines = [window.lines.get(at, "") for at in range(height)]
+        is_shown = lines[-9:-1] == values
+        least = least or (height if is_shown else None)
+        is_right = is_shown == bool(least) and (not is_shown or lines[-10] == "" and lines[-11].startswith("  end "))
+        faults += [] if is_right and sum(" drain " in it for it in lines) == 1 else [f"a window of {height}: {lines}"]
+    # The title, the machine, what is said, the events, an empty line, the values and the line that is typed.
+    wanted = 1 + 14 + 2 + offers + 1 + len(values) + 1
+    return faults + [f"the registers are shown from {least} lines on, not {wanted}"] * (least != wanted)
+
+
 def kept(_program, folder):
     """Saves over a file, and through a link; the faults."""
     other, link = folder / "other", folder / "link"
@@ -363,7 +404,8 @@ def main():
     program, faults = Program(), []
     os.environ["CDC6600"] = program.path
     with tempfile.TemporaryDirectory() as folder:
-        for work in (on_screen, by_lines, helped, listed, resized, kept, to_the_end, taken_up, interrupted, refused):
+        for work in (on_screen, by_lines, helped, listed, resized, roomy, kept, to_the_end, taken_up, interrupted,
+                     refused):
             try:
                 faults += work(program, Path(folder))
             except Missing as fault:

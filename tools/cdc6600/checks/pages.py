@@ -1,8 +1,8 @@
 """Runs each command that the pages show, in the folder of the repository, and compares what it prints with the lines
 that are shown for it. Says nothing where all are as they should be, else the line and the command.
 
-    tools/check pages           docs/use/tutorial.md, docs/use/tools.md, docs/use/teaching.md, and the pages of
-                                decks/pages/ with commands
+    tools/check pages           docs/use/tutorial.md, docs/use/tools.md, docs/use/teaching.md,
+                                docs/use/keepers.md, and the pages of decks/pages/ with commands
     tools/check pages PAGE..    these pages
 
 A command stands in a block between lines of three backquotes, after `$ ` at the begin of a line. The lines up to the
@@ -33,8 +33,8 @@ from cdc6600.shared.waiting import Missing, finish
 SHOWN = PAGES / "readme-commands.md"
 SHOWING = ("README.md",)
 ALL = (
-    "docs/use/tutorial.md", "docs/use/tools.md", "docs/use/teaching.md", "decks/pages/commands.md",
-    "decks/pages/readme-commands.md",
+    "docs/use/tutorial.md", "docs/use/tools.md", "docs/use/teaching.md", "docs/use/keepers.md",
+    "decks/pages/commands.md", "decks/pages/readme-commands.md",
 )
 FENCE, PROMPT, GAP = "```", "$ ", ".."
 COMMANDS = (PROMPT, "./cdc6600 ", "tools/beside ", "tools/explore ", "tools/schedule ", "tools/timeline ")

@@ -1,4 +1,4 @@
-"""Runs the tools where the system refuses them something, and where a session is long.
+"""Runs the tools where the system refuses them something, and where what they read is long or has no end.
 
 - Each process and each thread that a tool starts is refused in turn: the first, the second, the third, then the fourth,
   the eighth, the sixteenth .., up to a run that starts fewer.
@@ -6,6 +6,9 @@
 
 Each run has to end soon. One to which something is refused has a status that isn't 0, and one line on standard error,
 which begins with the name of the tool.
+
+A file, an input and a line without an end are refused by each tool that reads one, in little memory and with the status
+of bad input. So is a source program with too many lines.
 
 A name or a text with an escape character is shown with its code instead.
 
@@ -30,9 +33,11 @@ from itertools import accumulate, chain, count
 from pathlib import Path
 from typing import NamedTuple
 
+from cdc6600.assembling.sources import MOST_LINES
 from cdc6600.drawing.following import Following, Session
 from cdc6600.drawing.forms import MOST_COLUMNS, Form
-from cdc6600.shared.decks import FIRST, RUN, SESSIONS, session
+from cdc6600.shared.decks import FIRST, FOLDER, RUN, SESSIONS, session
+from cdc6600.shared.reading import MOST
 from cdc6600.shared.program import ROOT, Program, Ran, tell
 from cdc6600.shared.waiting import Missing, faults_found, finish, input_of, run
 
@@ -53,7 +58,25 @@ LONG, MOST_TIMES = (2000, 8000), 9
 OF_LONG_ADD, PASSES = ("issue", "read longadd", "finish longadd", "store longadd"), "46000" * 4
 SESSION_BEGIN = "core 256\nstart 40\nend\nask 40\nexchange\n"
 ESCAPE = "\x1b[31m"
-SESSION, DECK = str(SESSIONS / "conflicts.session"), str(FIRST)
+SESSION, DECK, SOURCE = str(SESSIONS / "conflicts.session"), str(FIRST), str(FOLDER / "source/total.source")
+# A file without an end, what a tool says of one, and the memory in which it has to say it.
+ENDLESS, TOO_LONG, ENOUGH_MEMORY = "/dev/zero", str(MOST), MOST + 2 * MOST_MEMORY
+# Calls that read a file without an end, with the status of bad input; those that read an endless input by this command.
+ENDLESS_CALLS = (
+    (1, "timeline", ENDLESS), (1, "timeline", SESSION, ENDLESS), (1, "beside", ENDLESS),
+    (1, "timeline", "--cycles", "--times", ENDLESS, SESSION), (1, "schedule", ENDLESS), (1, "explore", ENDLESS),
+    (1, "operate", "--plain", ENDLESS), (1, "gallery", "none", ENDLESS), (1, "run-jobs", "none", ENDLESS),
+    (1, "image", "pack", ENDLESS), (2, "assemble", ENDLESS), (2, "trace", ENDLESS), (2, "compare", "false", ENDLESS),
+)
+ENDLESS_INPUTS = (
+    (2, "it has more", "yes", "trace", "-"), (2, "it has more", "yes", "assemble", "-"),
+    (1, "it has more", "yes", "image", "pack", "-"), (1, "it has more", "yes", "image", "unpack", "-"),
+    (1, "1000 characters", "cat /dev/zero", "operate", "--plain", DECK),
+    (1, f"more than {MOST_COLUMNS} events", "yes read longadd", "operate", "--plain", DECK),
+)
+# The places of the starts that are refused to tools/conformance, which starts very many.
+FEW_PLACES = (1, 2, 3)
+EMULATOR = "sh -c 'exec \"$CDC6600\" replay \"$1\"' sh"
 
 
 class Tool(NamedTuple):
@@ -84,11 +107,13 @@ def tools(folder):
     yield Tool("beside", ("--values", SESSION))
     yield Tool("schedule", (DECK,))
     yield Tool("explore", ("--sessions", "2", DECK))
-    yield Tool("compare", ("sh -c 'exec \"$CDC6600\" replay \"$1\"' sh", DECK))
+    yield Tool("compare", (EMULATOR, DECK))
     yield Tool("operate", ("--plain", DECK), b"next\nundo\n")
     yield Tool("trace", (DECK,))
     decks = (str(RUN / f"{name}.deck") for name in ("jump", "divide"))
     yield Tool("run-jobs", ("--jobs", "3", f"{folder}/jobs", DECK, *decks))
+    yield Tool("assemble", (SOURCE,))
+    yield Tool("image", ("text", "-"), b"100 5\n")
 
 
 def ended(tool, words, program, **how):
@@ -121,22 +146,29 @@ def places():
     return chain((1, 2, 3), (4 << it for it in count()))
 
 
-def faults_of_starts(tool, kind, folder, program):
-    """Refuses a tool each start of a kind in turn; the faults."""
+def faults_of_starts(tool, kind, folder, program, at_places=None):
+    """Refuses a tool each start of a kind in turn, or those at these places; the faults."""
     faults, mark = [], folder / "refused"
-    for at in places():
+    for at in at_places or places():
         came = ended(tool, [*HARNESS, kind, str(at), mark, ROOT / f"tools/{tool.name}", *tool.words], program)
         if not mark.exists():
             return faults
         mark.unlink()
         faults += faults_of_end(f"{kind} {at} refused", tool, came)
+    return faults
+
+
+def wrapped(folder, program):
+    """A script that runs the program with all memory, for a tool that has little."""
+    wrapper = folder / "program"
+    wrapper.write_text(WRAPPER.replace("$PROGRAM", program), encoding="utf-8")
+    wrapper.chmod(0o755)
+    return wrapper
 
 
 def faults_of_memory(tool, folder, program):
     """Runs a tool with little memory, and with more and more up to its usual end; the faults."""
-    faults, wrapper = [], folder / "program"
-    wrapper.write_text(WRAPPER.replace("$PROGRAM", program), encoding="utf-8")
-    wrapper.chmod(0o755)
+    faults, wrapper = [], wrapped(folder, program)
     for most in accumulate(count(), lambda most, _: most + most // 50, initial=LEAST_MEMORY):
         limited = {"preexec_fn": lambda most=most: resource.setrlimit(resource.RLIMIT_AS, (most, -1))}
         came = ended(tool, [ROOT / f"tools/{tool.name}", *tool.words], wrapper, **limited)
@@ -201,19 +233,65 @@ def faults_of_long_sessions(folder):
     return faults
 
 
+def limited_calls():
+    """How a tool is called with little memory, and the program with all."""
+    return {"preexec_fn": lambda: resource.setrlimit(resource.RLIMIT_AS, (ENOUGH_MEMORY, -1))}
+
+
+def faults_of_endless(folder, program):
+    """Gives the tools files and inputs without an end; the faults."""
+    wrapper, faults = wrapped(folder, program), []
+    for status, name, *words in ENDLESS_CALLS:
+        tool = Tool(name, tuple(f"{folder}/none" if it == "none" else it for it in words))
+        came = ended(tool, [ROOT / f"tools/{name}", *tool.words], wrapper, **limited_calls())
+        faults += differing_end(tool, (status, TOO_LONG), came)
+    for status, told, command, name, *words in ENDLESS_INPUTS:
+        tool = Tool(name, tuple(words))
+        shell = f'set -o pipefail; {command} 2>/dev/null | "$0" "$@"; exit ${{PIPESTATUS[1]}}'
+        came = ended(tool, ["bash", "-c", shell, ROOT / f"tools/{name}", *words], wrapper, **limited_calls())
+        faults += differing_end(tool, (status, told), came)
+    source = folder / "long.source"
+    source.write_bytes(b"\n" * (MOST_LINES + 1))
+    tool = Tool("timeline", (str(source),))
+    came = ended(tool, [ROOT / "tools/timeline", *tool.words], wrapper, **limited_calls())
+    return faults + differing_end(tool, (1, f"at most {MOST_LINES} lines"), came)
+
+
+def differing_end(tool, wanted, came):
+    """A fault unless a run has ended with a status, and with one line that has a text."""
+    is_told = len(came.told) == 1 and f"tools/{tool.name}: " in came.told[0] and wanted[1] in came.told[0]
+    return [] if came.status == wanted[0] and is_told else [f"{tool.shown}: wanted {wanted}, and not {came}"]
+
+
+def calls_with_escapes(folder):
+    """The names and words of calls that tell a name or a text with an escape character. Their files are in a folder."""
+    missing, saved = f"{folder}/{ESCAPE}", f"{folder}/saved{ESCAPE}"
+    stored = session("conflicts")
+    answers = re.sub("^(E7 .*)$", rf"\1{ESCAPE}", stored.answers.decode(), flags=re.MULTILINE)
+    texts = {
+        "a.source": f"START  PS   {ESCAPE}\n", "a.answers": answers, "a.times": f"{ESCAPE} 1\n",
+        "a.session": f"{SESSION_BEGIN}{ESCAPE}\n", f"a{ESCAPE}.session": stored.text.decode(),
+    }
+    for name, text in texts.items():
+        (folder / name).write_text(text, encoding="ascii")
+    source, answers, times, no_event, named = (str(folder / name) for name in texts)
+    readers = "timeline", "beside", "schedule", "explore", "operate", "trace", "assemble"
+    yield from ((name, missing) for name in readers)
+    yield from (("gallery", f"{folder}/none", missing), ("run-jobs", f"{folder}/none", missing))
+    yield from (("compare", "false", missing), ("compare", f"false {ESCAPE}", DECK))
+    yield from (("timeline", SESSION, "2", missing),)
+    yield from (("assemble", "--listing", source), ("timeline", SESSION, answers), ("timeline", no_event))
+    yield from (("schedule", "--times", times, DECK), ("timeline", "--html", named), ("explore", "--html", named))
+    yield from (("image", "pack", missing), ("install", "--uninstall", missing))
+    yield from (("operate", "--plain", *words) for words in ((source,), (no_event,), ("--save", saved, DECK)))
+
+
 def faults_of_escapes(folder):
     """Gives the tools names and texts with an escape character, which no terminal may get; the faults."""
-    missing, source, answers = f"{folder}/{ESCAPE}", folder / "escape.source", folder / "escape.answers"
-    source.write_text(f"START  PS   {ESCAPE}\n", encoding="ascii")
-    stored = session("conflicts").answers.decode()
-    answers.write_text(re.sub("^(E7 .*)$", rf"\1{ESCAPE}", stored, flags=re.MULTILINE), encoding="ascii")
-    calls = [(name, missing) for name in ("timeline", "beside", "schedule", "explore", "operate", "trace", "assemble")]
-    calls += [("gallery", f"{folder}/none", missing), ("run-jobs", f"{folder}/none", missing)]
-    calls += [("compare", "false", missing), ("compare", f"false {ESCAPE}", DECK), ("timeline", SESSION, "2", missing)]
-    calls += [("assemble", "--listing", str(source)), ("timeline", SESSION, str(answers))]
     faults = []
-    for name, *words in calls:
-        ran = run([ROOT / f"tools/{name}", *words], MINUTES, capture_output=True)
+    for name, *words in calls_with_escapes(folder):
+        with input_of(f"source\nread {ESCAPE}\nquit\nquit\n".encode()) as typed:
+            ran = run([ROOT / f"tools/{name}", *words], MINUTES, capture_output=True, stdin=typed)
         is_shown = ESCAPE.encode() in ran.stdout + ran.stderr
         is_told = b"\\x1b" in ran.stdout + ran.stderr
         faults += [f"tools/{name} {words}: {ran}"] if is_shown or not is_told else []
@@ -225,6 +303,10 @@ def main():
     with tempfile.TemporaryDirectory() as room:
         works = [lambda it=it, kind=kind: faults_of_starts(it, kind, Path(room), program)
                  for it in tools(room) for kind in (PROCESS, THREAD)]
+        many = Tool("conformance", ("--random", "0", "--every", "100000", EMULATOR))
+        works += [lambda kind=kind: faults_of_starts(many, kind, Path(room), program, FEW_PLACES)
+                  for kind in (PROCESS, THREAD)]
         works += [lambda it=it: faults_of_memory(it, Path(room), program) for it in tools(room)]
+        works += [lambda: faults_of_endless(Path(room), program)]
         works += [lambda: faults_of_long_sessions(Path(room)), lambda: faults_of_escapes(Path(room))]
         return tell([fault for work in works for fault in faults_found(work)])

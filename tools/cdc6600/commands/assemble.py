@@ -13,7 +13,7 @@ The status is 0, or 1 if the source has faults, or 2 if it can't be read or the 
 import sys
 
 from cdc6600.assembling.output import deck_of, listing_of
-from cdc6600.assembling.sources import read_source
+from cdc6600.assembling.sources import Refused, read_source
 from cdc6600.comparing.arguments import STANDARD_INPUT, bytes_of, standard_input
 from cdc6600.comparing.faults import ended
 from cdc6600.shared.ending import Parser, printable
@@ -30,9 +30,13 @@ def work():
     given = arguments()
     is_standard = given.source == STANDARD_INPUT
     text = standard_input() if is_standard else bytes_of(given.source)
-    program, settings = read_source("standard input" if is_standard else given.source, text)
-    if program.faults.lines:
-        print("\n".join(map(printable, program.faults.lines)), file=sys.stderr)
+    try:
+        program, settings = read_source("standard input" if is_standard else given.source, text)
+        faults = program.faults.lines
+    except Refused as fault:
+        faults = [str(fault)]
+    if faults:
+        print("\n".join(map(printable, faults)), file=sys.stderr)
         return 1
     lines = listing_of(program) if given.listing else deck_of(program, settings)
     print("\n".join(map(printable, lines)))

@@ -1,8 +1,11 @@
 """Prints what `events` answers for a session, each answer beside its line of the schedule.
 
-With --values it prints the values of all registers and of the words that the deck shows after each event, in octal and
-as a number. A star stands before each value that the event has changed. EVENTS chooses lines by the numbers that
-tools/timeline has: 3-11,14 are the lines 3 to 11 and 14. The last line has the dump. CDC6600 may name the program to
+With --source it prints the line of the source program after the answer to each issue. With --values it prints the
+values of all registers and of the words that the deck shows after each event, in octal and as a number. A star stands
+before each value that the event has changed. EVENTS chooses lines by the numbers that tools/timeline has: 3-11,14 are
+the lines 3 to 11 and 14. The last line has the dump.
+
+The status is that of `events`, or 1 for bad input, or 2 if the command line is refused. CDC6600 may name the program to
 ask.
 """
 
@@ -14,6 +17,7 @@ from pathlib import Path
 
 from cdc6600.drawing.following import Fault, Following, Session, text_of
 from cdc6600.drawing.judging import states_of
+from cdc6600.drawing.listing import listing_of
 from cdc6600.drawing.values import all_values, value_lines
 from cdc6600.shared.decks import session
 from cdc6600.shared.ending import Parser, ended, printable
@@ -31,6 +35,7 @@ def events(text):
 def arguments():
     parser = Parser(__doc__)
     parser.add_argument("--values", action="store_true", help="print the values after each event")
+    parser.add_argument("--source", metavar="FILE", help="the source program of the deck, whose lines are printed too")
     parser.add_argument("name", metavar="SESSION",
                         help="a session of decks/sessions without the ending .session, or a file with a session")
     parser.add_argument("events", metavar="EVENTS", nargs="?", type=events, help="print these lines alone: 3-11,14")
@@ -49,9 +54,15 @@ def session_of(name):
     return Session(name, text_of(name))
 
 
+def source_lines(following, file):
+    """The line of the source program for each event of a session: that of an issue, and else nothing."""
+    listing, logs = listing_of(file, following.session), ["none", *following.logs]
+    is_made = [event == "issue" and not following.is_refused(n) for n, event in enumerate(following.session.events)]
+    return [listing.next_text(following.replays, log) if made else "" for made, log in zip(is_made, logs)]
+
+
 def blocks_of_values(following):
     """The lines of the values after each event of a session, a block for each."""
-    following.follow()
     values = all_values(following, states_of(following))
     return ["".join(f"  {line}\n" for line in value_lines(*pair)) for pair in zip(values[1:], values)]
 
@@ -62,14 +73,17 @@ def work():
     it = session_of(given.name)
     following = Following(program, it, None, None)
     following.check_schedule()
+    if given.values or given.source:
+        following.follow()
     blocks = blocks_of_values(following) if given.values else []
+    sources = source_lines(following, given.source) if given.source else []
     ran = program.run(["events"], it.text.encode("latin-1"))
     schedule = it.text.removesuffix("\n").split("\n")[it.deck_end :]
-    lines = itertools.zip_longest(schedule, ran.printed.decode().splitlines(), blocks, fillvalue="")
-    for number, (line, answer, block) in enumerate(lines, 1):
+    lines = itertools.zip_longest(schedule, ran.printed.decode().splitlines(), sources, blocks, fillvalue="")
+    for number, (line, answer, source, block) in enumerate(lines, 1):
         if given.events and not any(min(number, len(schedule)) in span for span in given.events):
             continue
-        line = printable(line)
+        line, answer = printable(line), f"{answer:<20} {source}" if source else answer
         print(f"{line:<19}{answer}" if answer or not line else line)
         sys.stdout.write(block)
     sys.stderr.buffer.write(ran.told)

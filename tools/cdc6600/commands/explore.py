@@ -8,7 +8,9 @@ of `cdc6600 events`, and has to refuse all others. A loop has many states: --bud
 instructions. At a terminal the number of states so far is shown.
 
 This is a look at one program. It proves nothing of another one: the theorem in README.md does. docs/use/tools.md
-explains the output. The status is 0, or 1 for bad input. CDC6600 may name the program to ask.
+explains the output.
+
+The status is 0, or 1 for bad input, or 2 if the command line is refused. CDC6600 may name the program to ask.
 """
 
 import argparse
@@ -17,7 +19,7 @@ from pathlib import Path
 
 from cdc6600.comparing.arguments import number
 from cdc6600.drawing.following import Fault, Session, text_of
-from cdc6600.shared.ending import Parser, ended
+from cdc6600.shared.ending import Parser, ended, printable
 from cdc6600.shared.program import Program
 from cdc6600.timing.confirming import Confirmation
 from cdc6600.timing.exploring import Exploration
@@ -68,7 +70,7 @@ def work():
     if given.html:
         if sys.stdout is not None:
             sys.stdout.reconfigure(encoding="utf-8", errors="replace")
-        put(Graph(exploration, Path(given.deck).stem, lines).text())
+        put(Graph(exploration, printable(Path(given.deck).stem), lines).text())
     else:
         put("".join(f"{line}\n" for line in lines))
     return 0

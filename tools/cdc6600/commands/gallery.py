@@ -1,7 +1,9 @@
 """Writes a page for each session into a folder, as `tools/timeline --html` does, and a page index.html that leads to
 them. If none is named, they are the sessions of decks/sessions, and the pages say what each one shows, as
 decks/README.md has it. A file that is a deck without a schedule gets the schedule of `tools/schedule`, and its page has
-a column for each minor cycle. Only pages of this tool are written over. CDC6600 may name the program to ask.
+a column for each minor cycle. Only pages of this tool are written over.
+
+The status is 0, or 1 for bad input, or 2 if the command line is refused. CDC6600 may name the program to ask.
 """
 
 from dataclasses import dataclass
@@ -10,10 +12,12 @@ from pathlib import Path
 from cdc6600.drawing.following import Fault, Following, Session, text_of
 from cdc6600.drawing.forms import check_columns
 from cdc6600.drawing.index import NAVIGATION, TITLE, Entry, index, links
+from cdc6600.drawing.listing import Listing
 from cdc6600.drawing.page import Page
 from cdc6600.shared.decks import sessions, shown_by_sessions
 from cdc6600.shared.ending import Parser, ended
 from cdc6600.shared.program import Program
+from cdc6600.shared.reading import read_file
 from cdc6600.shared.writing import put, why_not_written
 from cdc6600.timing.scheduling import Schedule
 from cdc6600.timing.times import Times, read_times
@@ -33,7 +37,7 @@ def arguments():
 
 def is_page(file):
     """Whether a file is a page of this tool."""
-    text = Path(file).read_bytes()
+    text = read_file(file)
     return any(mark.encode() in text for mark in (NAVIGATION, TITLE))
 
 
@@ -86,6 +90,7 @@ def named(program, file, times):
     schedule.make()
     deck = session.text.split("\n")[: session.deck_end]
     following = followed(program, file, "".join(f"{line}\n" for line in [*deck, *schedule.events, "end"]))
+    following.listing = Listing(file)
     return Shown(Path(file).stem, f"`{Path(file).name}`, scheduled by `tools/schedule`", following, times)
 
 

@@ -32,6 +32,7 @@ from pathlib import Path
 
 from cdc6600.installing.completions import FILES, SHELLS
 from cdc6600.installing.installation import Fault, Installation, Piece
+from cdc6600.shared.ending import printable
 from cdc6600.shared.program import ROOT, Program
 
 PROGRAM, DOCUMENTS = "bin/cdc6600", "share/doc/cdc6600"
@@ -61,8 +62,8 @@ PAGES = (
     "crates/program_order/specs/Headline.antt",
 )
 TOOLS = (
-    "assemble", "beside", "compare", "completions", "conformance", "explore", "gallery", "operate", "random-deck",
-    "run-jobs", "schedule", "timeline", "trace",
+    "assemble", "beside", "compare", "completions", "conformance", "explore", "gallery", "image", "operate",
+    "random-deck", "run-jobs", "schedule", "timeline", "trace",
 )
 # The parts of the package that these tools use, besides their own modules in `commands`.
 PACKAGES = (
@@ -175,8 +176,8 @@ def main():
     try:
         return work()
     except Fault as fault:
-        sys.exit(f"tools/install: {fault}")
+        sys.exit(printable(f"tools/install: {fault}"))
     except OSError as fault:
-        sys.exit(f"tools/install: {fault.filename}: {fault.strerror}")
+        sys.exit(printable(f"tools/install: {fault.filename}: {fault.strerror}"))
     except KeyboardInterrupt:
         return 130

@@ -1,7 +1,10 @@
 """Drives a machine by hand: it shows what each part of the machine has, offers the events that may be tried, makes the
 chosen one by `cdc6600 events`, and tells in words what it did or why it is refused. Events are taken back by `undo`.
 With --save the session is written to a file at the end; `save FILE` writes it at any time. Where a schedule comes after
-the deck, its events are made first. docs/use/tools.md has an example. CDC6600 may name the program to ask.
+the deck, its events are made first. docs/use/tools.md has an example.
+
+The status is 0, or 1 for bad input or an unusable terminal, or 2 if the command line is refused. CDC6600 may name the
+program to ask.
 """
 
 import curses
@@ -15,7 +18,7 @@ from cdc6600.operating.commands import Commands
 from cdc6600.operating.operation import Operation
 from cdc6600.operating.plain import Plain
 from cdc6600.operating.screen import LINES, Screen
-from cdc6600.shared.ending import Parser, ended
+from cdc6600.shared.ending import Parser, ended, printable
 from cdc6600.shared.program import Program
 
 
@@ -54,7 +57,7 @@ def operate(given, commands):
         curses.wrapper(lambda window: Screen(window, commands).run())
     if given.save:
         commands.operation.save(given.save)
-        print(f"saved in {given.save}, {commands.operation.progress}")
+        print(printable(f"saved in {given.save}, {commands.operation.progress}"))
 
 
 def work():

@@ -3,6 +3,8 @@
 The kinds are registers, references, branches, faults, exchanges and edges, and seeds take turns: those that are
 multiples of six are of registers, the next ones of references, and so on. --kind names one. A deck's run ends after
 about a hundred to some thousands of instructions. docs/use/emulators.md says what each kind has.
+
+The status is 0, or 2 if the command line is refused.
 """
 
 import sys

@@ -12,7 +12,7 @@ With --summary the cycles, the instructions per cycle, with the first exchange a
 causes are printed instead. They are those of the file of times; nothing is said of a real machine. docs/use/tools.md
 explains them.
 
-The status is 0, or 1 for bad input. CDC6600 may name the program to ask.
+The status is 0, or 1 for bad input, or 2 if the command line is refused. CDC6600 may name the program to ask.
 """
 
 import argparse

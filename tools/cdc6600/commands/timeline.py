@@ -18,7 +18,9 @@ when that was accepted and returned; and which refusal held it last. A moment is
   cycles    the minor cycles of this hold, or null without --cycles
 
 docs/use/tools.md explains the drawing; drawing/following.py follows the events, drawing/forms.py draws the rows,
-drawing/page.py writes the page, and timing/reservations.py has the table. CDC6600 may name the program to ask.
+drawing/page.py writes the page, and timing/reservations.py has the table.
+
+The status is 0, or 1 for bad input, or 2 if the command line is refused. CDC6600 may name the program to ask.
 """
 
 import sys
@@ -27,8 +29,9 @@ from pathlib import Path
 from cdc6600.drawing.comparison import Comparison
 from cdc6600.drawing.following import Fault, Following, Session, text_of
 from cdc6600.drawing.forms import Form, check_columns
+from cdc6600.drawing.listing import listing_of
 from cdc6600.drawing.page import Page
-from cdc6600.shared.ending import Parser, ended
+from cdc6600.shared.ending import Parser, ended, printable
 from cdc6600.shared.program import Program
 from cdc6600.timing.clock import clocked
 from cdc6600.timing.reservations import as_json, as_text, rows_of
@@ -46,6 +49,8 @@ def arguments():
     parser.add_argument("--cycles", action="store_true", help="a column for each minor cycle instead of each event")
     parser.add_argument("--times", metavar="FILE",
                         help="the file of times, tools/cdc6600/timing/thornton.times by default")
+    parser.add_argument("--source", metavar="FILE",
+                        help="with --html, the source program of the deck, whose lines the page shows")
     parser.add_argument("--compare", action="store_true", help="with --html, compare the session with a second one")
     parser.add_argument("session", metavar="SESSION", help="a deck with a schedule after it")
     parser.add_argument("second", metavar="SECOND", nargs="?",
@@ -55,6 +60,8 @@ def arguments():
         parser.error("--times goes with --cycles or --compare")
     if given.compare and not (given.html and given.second):
         parser.error("--compare takes --html and two sessions")
+    if given.source and (given.compare or not given.html):
+        parser.error("--source goes with --html and one session")
     if given.json and not given.table:
         parser.error("--json goes with --table")
     return given
@@ -76,7 +83,9 @@ def page_of(given, program, times):
         files = (given.session, given.second)
         return Comparison([followed(program, file) for file in files], files, times).text()
     following = followed(program, given.session, given.second)
-    return Page(following, Path(given.session).stem, times=times).text()
+    if given.source:
+        following.listing = listing_of(given.source, following.session)
+    return Page(following, printable(Path(given.session).stem), times=times).text()
 
 
 def table_of(following, given, times):

@@ -1,9 +1,9 @@
 """What the words of a command line stand for."""
 
 import argparse
-from pathlib import Path
 
 from cdc6600.assembling.sources import Refused, as_deck
+from cdc6600.shared.reading import read_file, read_stream
 
 from .faults import BadInput
 
@@ -62,7 +62,7 @@ def bytes_of(file):
 
     Raises BadInput where it can't be read."""
     try:
-        return Path(file).read_bytes()
+        return read_file(file)
     except (OSError, ValueError) as fault:
         raise BadInput(f"{file}: {getattr(fault, 'strerror', None) or fault}") from None
 
@@ -82,7 +82,7 @@ def standard_input():
 
     Raises BadInput where it can't be read."""
     try:
-        with open(0, "rb", closefd=False) as stream:
-            return stream.read()
+        with open(0, "rb", buffering=0, closefd=False) as stream:
+            return read_stream(stream, "standard input")
     except OSError as fault:
         raise BadInput(f"standard input: {fault.strerror}") from None

@@ -4,6 +4,8 @@ import re
 from dataclasses import dataclass
 from functools import cached_property
 
+from cdc6600.shared.ending import printable
+
 from .faults import Failure
 
 ADDRESS, WORD = "([0-7]{6})", "([0-7]{20})"
@@ -38,7 +40,7 @@ def form_of(number):
 
 def shown(line):
     """A line as it may stand in a fault."""
-    return re.sub(r"[^ -~]", "?", line)[:60]
+    return printable(line)[:60]
 
 
 class Dump:

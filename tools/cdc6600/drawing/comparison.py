@@ -5,6 +5,7 @@ import html
 from pathlib import Path
 from string import Template
 
+from cdc6600.shared.ending import printable
 from cdc6600.timing.reservations import rows_of
 from cdc6600.timing.totals import Totals
 from cdc6600.timing.waits import Account
@@ -43,8 +44,8 @@ class Timed:
 
 def titles_of(files):
     """The names of files without their folders and endings, or the files if these are the same."""
-    names = [Path(file).stem for file in files]
-    return names if len(set(names)) == len(files) else files
+    names = [printable(Path(file).stem) for file in files]
+    return names if len(set(names)) == len(files) else [printable(file) for file in files]
 
 
 def arrange(forms):

@@ -7,10 +7,10 @@ drawing leads to. Words of memory and registers are those that `replay` prints f
 import re
 from collections import defaultdict
 from functools import lru_cache
-from pathlib import Path
 
 from cdc6600.assembling.sources import Refused, as_deck
 from cdc6600.shared.ending import printable
+from cdc6600.shared.reading import read_file
 
 UNITS = "(?:branch|boolean|shift|add|longadd|multiply1|multiply2|divide|increment1|increment2)"
 EVENT = re.compile(
@@ -45,7 +45,7 @@ class Fault(Exception):
 def text_of(file):
     """What a file has, a character for each byte. A source program is assembled."""
     try:
-        return as_deck(file, Path(file).read_bytes()).decode("latin-1")
+        return as_deck(file, read_file(file)).decode("latin-1")
     except Refused as fault:
         raise Fault(*fault.args) from None
     except OSError as fault:
@@ -208,8 +208,8 @@ class Following:
     """The drawing of a session as it is followed: a row for each reservation, the first one for the machine itself.
 
     `marks` has what a row has at an event, `gaps` what it has before that if it is anything, and `rows_at` the rows
-    with a mark by the events. `refused` has a line for each refused
-    event, and `ending` is the last line. `logs` has the log after each event."""
+    with a mark by the events. `refused` has a line for each refused event, and `ending` is the last line. `logs` has
+    the log after each event. `listing` is that of the deck's source program, or none if that isn't known."""
 
     def __init__(self, program, session, file, answers):
         """Asks the program for the answers where there is no file of them.
@@ -225,7 +225,7 @@ class Following:
         self.rows, self.marks, self.gaps, self.columns, self.logs = [Machine()], {}, {}, 0, self.log
         self.rows_at = defaultdict(list)
         self.holders, self.places, self.channels, self.asked = {}, {}, {}, None
-        self.refused, self.ending, self.has_accesses = [], "", False
+        self.refused, self.ending, self.has_accesses, self.listing = [], "", False, None
 
     def check_deck(self, told):
         """A fault of a line of the schedule is drawn; any other one is told."""
@@ -245,7 +245,7 @@ class Following:
         self.check_schedule()
         for n, event in enumerate(self.session.events):
             if not EVENT.fullmatch(event):
-                self.stop(n, "no event: " + re.sub(r"[^ -~]", "?", event)[:60])
+                self.stop(n, "no event: " + printable(event)[:60])
                 return
             self.draw(n, event)
         if not self.ending:

@@ -70,14 +70,20 @@ class Words:
         """An issue, to a unit or without one."""
         answered = self.following.answers[n].split(" ")
         if len(answered) == 1:
-            return self.issue_alone(n)
+            return f"{self.issue_alone(n)}{self.source(n)}"
         row = int(answered[2])
         it, awaited = self.rows[row], self.judge(n + 1).awaited(row)
-        return said(
+        issued = said(
             "issue", text=it.text, unit=NAMES[it.unit], number=str(row), results=results_of(it.text),
             awaited=[register for register, _ in awaited], branch=kind_of(it.text) == "branch",
             producers=[str(producer) for producer in sorted({producer for _, producer in awaited})],
         )
+        return f"{issued}{self.source(n)}"
+
+    def source(self, n):
+        """The line of the source program from which the instruction of an issue is, if that is known."""
+        text = self.following.listing and self.following.listing.next_text(self.replays, self.log(n))
+        return said("source", text=text) if text else ""
 
     def issue_alone(self, n):
         """An issue that reserves no unit: a pass, or one that halts the machine."""

@@ -8,9 +8,9 @@ BODIES = "wrong-bodies-test"
 BUILDING = ("spent-tokens", "build-program-test")
 # They try the program and the tools.
 DECKS = (
-    "decks", "pages", "assembler", "schedules", "both-kinds", "busy", "threads", "sequential", "large", "mutations",
-    "failures", "allocations", "emulators", "trace", "random-sessions", "values", "operate", "scheduling", "exploring",
-    "cycles", "browser", "driving", "progress", "habits", "many-jobs", "tool-failures", "embedding",
+    "decks", "pages", "assembler", "image", "schedules", "both-kinds", "busy", "threads", "sequential", "large",
+    "mutations", "failures", "allocations", "emulators", "trace", "random-sessions", "values", "operate", "scheduling",
+    "exploring", "cycles", "browser", "driving", "progress", "habits", "many-jobs", "tool-failures", "embedding",
     "module",
 )
 NAMES = (*SMALL, BODIES, *DECKS, *BUILDING)

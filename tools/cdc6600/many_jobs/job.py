@@ -8,6 +8,7 @@ from contextlib import suppress
 
 from cdc6600.assembling.sources import ENDING, Refused, as_deck
 from cdc6600.shared.ending import why_not_started
+from cdc6600.shared.reading import read_file, read_stream
 
 from .signals import waiting
 
@@ -31,7 +32,8 @@ class Unread(Exception):
 def content_of(descriptor):
     """All that a file has, from its beginning. Its position is the beginning afterwards."""
     os.lseek(descriptor, 0, os.SEEK_SET)
-    text = b"".join(iter(lambda: os.read(descriptor, 1 << 20), b""))
+    with open(descriptor, "rb", buffering=0, closefd=False) as stream:
+        text = read_stream(stream, None)
     os.lseek(descriptor, 0, os.SEEK_SET)
     return text
 
@@ -39,8 +41,7 @@ def content_of(descriptor):
 def content_if_there(path):
     """All that a file has, or nothing if there is no such file."""
     try:
-        with open(path, "rb", buffering=0) as file:
-            return file.readall()
+        return read_file(path)
     except FileNotFoundError:
         return None
 

@@ -1,9 +1,8 @@
 """What is typed to drive a machine: events, and commands."""
 
-import re
-
 from cdc6600.drawing.following import EVENT, Fault
 from cdc6600.drawing.instructions import NAMES, UNITS
+from cdc6600.shared.ending import printable
 
 from .phrases import near
 
@@ -127,7 +126,7 @@ class Commands:
     def make(self, event):
         """Makes an event."""
         if not EVENT.fullmatch(event):
-            shown = re.sub(r"[^ -~]", "?", event)[:40]
+            shown = printable(event)[:40]
             return f"That is no event and no command: {shown}.{near(event) or ' ? says what may be typed.'}"
         if self.operation.is_over:
             return OVER
@@ -148,9 +147,9 @@ class Commands:
         try:
             self.operation.save(file)
         except Fault as fault:
-            return f"Not saved: {ascii(str(fault))[1:-1]}."
+            return f"Not saved: {printable(str(fault))}."
         self.file = file
-        return f"Saved in {ascii(file)[1:-1]}, {self.operation.progress}."
+        return f"Saved in {printable(file)}, {self.operation.progress}."
 
     def quit(self):
         """Ends the operation. If events would be lost, the second one does."""

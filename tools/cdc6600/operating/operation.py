@@ -6,16 +6,17 @@ from dataclasses import dataclass
 from pathlib import Path
 
 from cdc6600.drawing.following import ENDS, EVENT, Fault, Following, Session
+from cdc6600.drawing.listing import Listing
 from cdc6600.drawing.judging import Judge, Refusal
 from cdc6600.drawing.sentences import reservation, said
 from cdc6600.drawing.states import RUNNING, State
 from cdc6600.shared.telling import plural
 from cdc6600.drawing.values import value_lines, values_of
 from cdc6600.drawing.words import Words
+from cdc6600.shared.ending import printable
 from cdc6600.shared.writing import put, why_not_written
 
 from .conversation import Conversation
-from .listing import Listing
 
 # What a reservation does next in its unit, by its phase.
 NEXT = {"issued": "read", "read": "finish", "finished": "store"}
@@ -63,7 +64,7 @@ class Operation:
         self.conversation = Conversation(self.program.path, self.deck)
         for event in events:
             if not EVENT.fullmatch(event):
-                raise Fault(self.file, "no event: " + re.sub(r"[^ -~]", "?", event)[:60])
+                raise Fault(self.file, "no event: " + printable(event)[:60])
             self.make(event)
 
     @property

@@ -4,11 +4,16 @@ import importlib
 import sys
 from contextlib import suppress
 
+from cdc6600.drawing.following import Fault
+from cdc6600.drawing.forms import MOST_COLUMNS
+
 from .board import board, offered, wrapped
 from .commands import Quit
 from .phrases import completions
 
 PROMPT = "> "
+# The characters of a line that are read. Lines that nobody types make at most as many events as a page has columns.
+LONGEST, MOST_EVENTS = 1000, MOST_COLUMNS
 # So that a line is completed by the tab key, and a terminal gets no sequences that it may not know.
 BINDINGS = ("tab: complete", "set enable-bracketed-paste off", "set bell-style none")
 
@@ -34,6 +39,8 @@ class Plain:
             except Quit:
                 return
             # What changes no event has no machine to show, but an empty line asks for it.
+            if not self.is_terminal and len(self.operation.events) > MOST_EVENTS:
+                raise Fault("standard input", f"it makes more than {MOST_EVENTS} events")
             if self.commands.pane:
                 print(*self.commands.lines(), sep="\n")
                 self.commands.pane = None
@@ -67,7 +74,10 @@ class Plain:
             except EOFError:
                 return ""
         print(PROMPT, end="", flush=True)
-        return sys.stdin.readline()
+        line = sys.stdin.readline(LONGEST)
+        if len(line) == LONGEST:
+            raise Fault("standard input", f"a line has {LONGEST} characters or more")
+        return line
 
     def meant(self, line):
         """The event that a number stands for; any other line as it is."""

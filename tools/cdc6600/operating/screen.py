@@ -5,10 +5,11 @@ import os
 import sys
 
 from cdc6600.drawing.following import Fault
+from cdc6600.drawing.listing import MARK
+from cdc6600.shared.ending import printable
 
 from .board import WIDTH, board, offered, wrapped
-from .commands import PAST, SOURCE, Quit
-from .listing import MARK
+from .commands import PAST, SOURCE, VALUES, Quit
 from .phrases import completed
 
 LINES = 24
@@ -16,6 +17,8 @@ KEYS = "Up, Down, Enter: make one. Left: undo. Right: next. Tab completes. ?: he
 TYPING = "A line is being typed: Enter carries it out, and Escape clears it."
 # How often a key is read anew where none came.
 TRIES = 100
+# The lines of the values of all registers.
+REGISTER_LINES = 8
 # By how many lines the past events are scrolled at once.
 PAGE = 8
 ENTER = ("\n", "\r", curses.KEY_ENTER)
@@ -135,7 +138,7 @@ class Screen:
 
     def draw_all(self, height):
         """Draws the title, what is said, the machine, what may be tried, and the line that is typed."""
-        title = f"{ascii(self.operation.file)[1:-1]}, {self.operation.progress}"
+        title = f"{printable(self.operation.file)}, {self.operation.progress}"
         self.put(0, f"{title:<{WIDTH - 1}}"[: WIDTH - 1], curses.A_REVERSE)
         said = wrapped(self.said)
         if self.operation.is_over and not self.commands.pane:
@@ -144,10 +147,17 @@ class Screen:
             # What is said is always there whole, and at least one of the events.
             lines = [*self.pane(height - 3 - len(said)), *said]
             below = min(len(self.offers), height - 2 - len(lines))
-            self.put_all(lines)
-            self.draw_offers(height - 1 - below, below)
+            values = self.values(height - 2 - len(lines) - below)
+            self.put_all([*lines, *[""] * (height - 2 - len(lines) - len(values)), *values])
+            self.draw_offers(height - 1 - below - len(values), below)
         shown = (f"> {self.typed}"[-(WIDTH - 2) :], curses.A_NORMAL) if self.typed else (KEYS, curses.A_DIM)
         self.put(height - 1, *shown)
+
+    def values(self, room):
+        """The values of the registers, which stand below the events, with an empty line before them; nothing if there
+        is no room for all of them, or they are shown instead of the machine."""
+        is_shown = self.commands.pane == VALUES
+        return [] if is_shown or room <= REGISTER_LINES else ["", *self.operation.value_lines()[:REGISTER_LINES]]
 
     def pane(self, height):
         """The machine in at most so many lines, or what is shown instead of it."""
@@ -176,5 +186,6 @@ class Screen:
             self.put(at + number - first, f"{'>' if is_chosen else ' '} {offered(offer)}", look)
 
     def put(self, line, text, look=curses.A_NORMAL):
-        """Puts a text into a line of the window."""
-        self.window.addstr(line, 0, text, look)
+        """Puts a text into a line of the window. A character that the terminal's code hasn't is put as its code."""
+        code = self.window.encoding
+        self.window.addstr(line, 0, text.encode(code, "backslashreplace").decode(code)[:WIDTH], look)

@@ -16,7 +16,7 @@ IS_CHECKOUT = (ROOT / "crates.txt").is_file()
 BUILT = ROOT / ("crates/operator_main/out/operator_main" if IS_CHECKOUT else "../../../bin/cdc6600")
 # What `./cdc6600 --unproved` has built of the same sources without their proof.
 UNPROVED = BUILT.with_name(f"{BUILT.name}.unproved")
-
+OTHER = "CDC6600=FILE names another executable"
 
 # How many bytes of a log go into an argument. Linux takes at most 131,071.
 OF_AN_ARGUMENT = 100_000
@@ -63,14 +63,14 @@ def program_path():
     run."""
     if IS_CHECKOUT and not named_program() and not is_current(BUILT):
         if is_current(UNPROVED):
-            told = "UNPROVED: what runs is built from the sources without their proof"
-            print(f"{sys.argv[0]}: {told}", file=sys.stderr, flush=True)
+            told = "UNPROVED: what runs is built from the sources without their proof, and 16 to 180 times slower"
+            print(printable(f"{sys.argv[0]}: {told}"), file=sys.stderr, flush=True)
             return str(UNPROVED)
         if not BUILT.exists():
             told = "proving and building the program first, which takes some ten minutes"
-            print(f"{sys.argv[0]}: {told}; CDC6600=FILE names another executable", file=sys.stderr, flush=True)
+            print(printable(f"{sys.argv[0]}: {told}; {OTHER}"), file=sys.stderr, flush=True)
         if subprocess.run([ROOT / "tools/build-program"], check=False).returncode:
-            sys.exit(f"{sys.argv[0]}: the program could not be built")
+            sys.exit(printable(f"{sys.argv[0]}: the program could not be built"))
     return named_program() or str(BUILT)
 
 

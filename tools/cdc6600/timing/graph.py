@@ -9,6 +9,7 @@ from string import Template
 
 from cdc6600.drawing.forms import SVG
 from cdc6600.drawing.page import read
+from cdc6600.drawing.values import REGISTERS, values_of
 from cdc6600.shared.telling import plural
 
 FOLDER = Path(__file__).resolve().parent
@@ -73,7 +74,7 @@ class Graph:
     def data(self):
         """What the script reads of each state, by number."""
         return [{
-            "layer": node.layer, "orders": str(node.orders), "has": self.holdings(node.state),
+            "layer": node.layer, "orders": str(node.orders), "has": [*self.holdings(node.state), self.values(node)],
             "edges": [[event, child.number] for event, child in node.edges.items()],
             "refused": list(node.refusals.items()),
         } for node in self.exploration.nodes]
@@ -90,6 +91,12 @@ class Graph:
         issued = f"{state.issued} {plural(range(state.issued), 'instruction', 'instructions')} issued"
         halt = "fault flag set" if state.fault else "running" if state.halt == "running" else f"halted: {state.halt}"
         return [f"{issued}; {halt}", *found]
+
+    def values(self, node):
+        """The registers of a state that aren't zero, with their octal values."""
+        values = values_of(self.exploration.judge_of(node))
+        found = [f"{name} {values[name].lstrip('0')}" for name in REGISTERS if int(values[name], 8)]
+        return f"registers, in octal: {', '.join([*found, 'all others 0'])}"
 
     def layers(self):
         """The rows of the table of layers."""

@@ -4,6 +4,7 @@ import re
 from pathlib import Path
 
 from cdc6600.drawing.following import Fault, text_of
+from cdc6600.shared.ending import printable
 from cdc6600.shared.instructions import instruction
 
 DEFAULT = Path(__file__).resolve().parent / "thornton.times"
@@ -44,7 +45,7 @@ NO_TIMES = Times(dict.fromkeys(LEAST, 0))
 
 def shown(word):
     """A word of a file as a fault shows it."""
-    return "'" + re.sub(r"[^ -~]", "?", word)[:32] + "'"
+    return f"'{printable(word)[:32]}'"
 
 
 class Reader:

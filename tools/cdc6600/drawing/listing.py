@@ -1,0 +1,51 @@
+"""The listing of the source program from which a deck is, and the line of an instruction."""
+
+from cdc6600.assembling.output import numbered_listing
+from cdc6600.assembling.sources import ENDING, read_source
+from cdc6600.shared.ending import printable
+from cdc6600.shared.reading import read_file
+
+from .following import Fault, Session, text_of
+from .states import RUNNING
+
+MARK = ">"
+
+
+class Listing:
+    """The listing of the source program in a file, which has no fault; or of none, if the file is a deck."""
+
+    def __init__(self, file):
+        self.program = self.settings = None
+        if str(file).endswith(ENDING):
+            self.program, self.settings = read_source(file, read_file(file))
+
+    def lines(self, replays, log):
+        """The lines after a log, that of the next instruction with a mark."""
+        if not self.program:
+            return ["The deck is from no source program."]
+        at = self.next_line(replays, log)
+        listing = numbered_listing(self.program)
+        return [printable(f"{MARK if number == at else ' '} {line}".expandtabs()) for number, line in listing]
+
+    def next_line(self, replays, log):
+        """The number of the next instruction's line; none where the machine is halted, or has another program."""
+        if replays.halt(log) != RUNNING or replays.number(log, 2, 1) != self.settings.reference:
+            return None
+        return self.program.line_at(replays.number(log, 0, 1), replays.number(log, 0, 3))
+
+    def next_text(self, replays, log):
+        """The line of the next instruction after a log, with its number; nothing if it is in no line, as a pass that
+        fills a word."""
+        at = self.next_line(replays, log) if self.program else None
+        return f"line {at}: {printable(' '.join(self.program.texts[at - 1].split()))}" if at else ""
+
+
+def listing_of(file, session):
+    """The listing of the source program in a file, from which the deck of a session is.
+
+    Raises Fault if it isn't from that."""
+    if not str(file).endswith(ENDING):
+        raise Fault(file, f"its name doesn't end with {ENDING}")
+    if Session(file, text_of(file)).deck != session.deck:
+        raise Fault(file, f"its deck isn't that of {session.file}")
+    return Listing(file)
