@@ -168,7 +168,7 @@ rested most address w v x n e a done k l i h s g o r =
           (step_made v x e done i (subst (λ y. IsAnswer v e y) o h) (s ∙ ap (settled v e) o));
       within = omega (arith, l);
       passed = subst (λ m. NeverRests address m w) (omega arith) k.passed;
-      ended = inr (inl r);
+      ended = inr (inl (omega arith, r));
       onward = one_more w v x n e a k.onward g;
     }
 

@@ -1,5 +1,5 @@
 -- Several next events of a machine by one call. Source: ours.
-use Rattle.std.specs.Prelude.{◌≡◌, ◌⊎◌, ◌≤◌, ◌-◌, ◌==◌, ◌&&◌, ℕ, zero, suc, Bool, true, false, not, if◌then◌else◌}
+use Rattle.std.specs.Prelude.{◌≡◌, ◌⊎◌, ◌≤◌, ◌<◌, ◌-◌, ◌==◌, ◌&&◌, ℕ, zero, suc, Bool, true, false, not, if◌then◌else◌}
 use Rattle.std.specs.Prelude.{List, length, Option, Some, None, is_none, Result, ⊤}
 use Rattle.instructions.specs.declared.refusal.Refusal.{Refusal}
 use Rattle.in_flight.specs.Lookup.{is_pending}
@@ -43,11 +43,11 @@ NeverRests address (suc n) w = NeverRests address n w
     × ((x : Processor) → stepped_by (suc n) w ≡ Some x → rests_at address x ≡ false)
 
 -- of at most `most` next events `count` were made. No more were made, because these are all, because the machine rests
--- at the address after the last one, or because the next one may not be made
+-- at the address after the last one, or because the next one may not be made. If it rests there at first, it goes on
 pub record Advances (most address : ℕ) (w v : Processor) (count : ℕ) : Type 0 where
   pub made : stepped_by count w ≡ Some v
   pub within : count ≤ most
   -- after no event but the last does the machine rest at the address
   pub passed : NeverRests address (count - 1) w
-  pub ended : (count ≡ most) ⊎ ((rests_at address v ≡ true) ⊎ (stepped v ≡ None))
+  pub ended : (count ≡ most) ⊎ (((0 < count) × (rests_at address v ≡ true)) ⊎ (stepped v ≡ None))
   pub onward : GoesOnBySteps w count v
