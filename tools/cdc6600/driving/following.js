@@ -1,5 +1,6 @@
-// What the page follows of a machine beside it: which reservation has a unit, a place, a channel, a bank or a register,
-// and which ones hold an event back. No call of the library tells this yet; once some do, this file goes.
+// Follows the answers of a machine: which reservation has a unit, a place, a channel, a bank or a register, and which
+// reservations hold an event back. The library's calls `units`, `hopper`, `channels` and `banks` tell a part of this,
+// but the page doesn't ask them yet. No call tells which registers are reserved, or which reservations hold an event.
 
 const PLACES = [0, 1, 2, 3];
 const BANKS = GIVEN.limits.banks;
