@@ -17,6 +17,7 @@ use Rattle.hopper.specs.declared.entered.Entered.{Entered}
 use Rattle.hopper.specs.declared.reference.Reference.{Reference}
 use Rattle.hopper.specs.Hopper.{bank_of}
 use Rattle.hopper.specs.Queue.{stands_at, reference_at, place_for, holds_back, accept_answer, accepted}
+use Rattle.hopper.specs.inner.Found.{found_at}
 use Rattle.hopper.specs.inner.View.{IsRight}
 use Rattle.hopper.proofs.Standing.{place_free}
 
@@ -33,16 +34,6 @@ entered_right es busy p reference r h =
     }
 
 -- ---- the one that is looked for ----
-
--- what is found where a reference stands in a place, and so many entered before it
-abbrev pub found_at : List Entered → ℕ → ℕ → Reference → Found Entered Reference
-found_at entered place index reference =
-    record {
-      earlier = take index entered;
-      item = record { place = place; reference = reference };
-      answer = reference;
-      later = drop (suc index) entered;
-    }
 
 each_at : (P : Entered → Type 0) (es : List Entered) (d : Entered) → ((k : ℕ) → k < length es → P (get_or es k d))
     → Each P es

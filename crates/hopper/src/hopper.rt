@@ -1,9 +1,10 @@
-ghost use Rattle.std.specs.Prelude.{◌≡◌, ◌∷◌, ◌++◌, [], false, replicate, is_none, slice_index_or, slice_set};
-ghost use Rattle.std.specs.Prelude.{MatchResult};
+ghost use Rattle.std.specs.Prelude.{◌≡◌, ◌<◌, ◌∷◌, ◌++◌, [], false, replicate, is_none, slice_index_or, slice_set};
+ghost use Rattle.std.specs.Prelude.{length, MatchResult, IfOk, Ok, Err, Some};
 ghost use Rattle.std.specs.List.{list_any};
 ghost use Rattle.instructions.specs.Finding.{seek};
 ghost use Rattle.hopper.specs.Queue.{reference_at, place_for, enter_answer, accept_answer, accepted, free_answer};
 ghost use Rattle.hopper.specs.Queue.{stands_at, is_taken, is_for, stores_here, holds_back};
+ghost use Rattle.hopper.specs.inner.Found.{found_at};
 
 use crate::{Entered, PLACES, Reference, bank_of};
 use arrayvec::ArrayVec;
@@ -82,19 +83,15 @@ impl Hopper {
         Ok(place)
     }
 
-    /// Lets memory take the reference in a place, and makes its bank busy. Returns the reference. References that
-    /// entered after it keep their order.
-    ///
-    /// # Errors
-    /// In this order, and nothing changes then: `Nothing` if the place is empty or doesn't exist; `BankBusy` if the
-    /// bank of the address is busy; `OlderAtAddress` if a reference that entered earlier waits for the same address and
-    /// at least one of the two stores.
+    /// The reference in a place, if memory may take it, with the number of references that entered before it.
     #[tactic(auto, unfolding(crate::proofs::Opened::one_that_waits))]
-    pub fn accept(&mut self, place: u8) -> Result<Reference, Refusal>
-        ensures answer { result ≡ accept_answer self.old.busy (seek (reference_at place) self.old.entered) }
-        ensures after { MatchResult result
-            (λ reference. self.new ≡ accepted self.old (seek (reference_at place) self.old.entered))
-            (λ refusal. self.new ≡ self.old) }
+    fn acceptable(&self, place: u8) -> Result<(usize, Reference), Refusal>
+        ensures answer { MatchResult result
+            (λ found. accept_answer self.now.busy (seek (reference_at place) self.now.entered) ≡ Ok found.1)
+            (λ refusal. accept_answer self.now.busy (seek (reference_at place) self.now.entered) ≡ Err refusal) }
+        ensures index { IfOk result (λ found. found.0 < length self.now.entered) }
+        ensures found { IfOk result (λ found. seek (reference_at place) self.now.entered
+            ≡ Some (found_at self.now.entered place found.0 found.1)) }
     {
         let entered = self.entered.as_slice();
         let Some(index) = entered.iter().position(
@@ -117,8 +114,41 @@ impl Hopper {
         ) {
             return Err(Refusal::OlderAtAddress);
         }
+        Ok((index, reference))
+    }
+
+    /// Whether memory may take the reference in a place. Returns the reference.
+    ///
+    /// # Errors
+    /// In this order: `Nothing` if the place is empty or doesn't exist; `BankBusy` if the bank of the address is busy;
+    /// `OlderAtAddress` if a reference that entered earlier waits for the same address and at least one of the two
+    /// stores.
+    pub fn may_accept(&self, place: u8) -> Result<Reference, Refusal>
+        ensures { result ≡ accept_answer self.now.busy (seek (reference_at place) self.now.entered) }
+    {
+        match self.acceptable(place) {
+            Ok((_, reference)) => Ok(reference),
+            Err(refusal) => Err(refusal),
+        }
+    }
+
+    /// Lets memory take the reference in a place, and makes its bank busy. Returns the reference. References that
+    /// entered after it keep their order.
+    ///
+    /// # Errors
+    /// Those of `may_accept`, and nothing changes then.
+    pub fn accept(&mut self, place: u8) -> Result<Reference, Refusal>
+        ensures answer { result ≡ accept_answer self.old.busy (seek (reference_at place) self.old.entered) }
+        ensures after { MatchResult result
+            (λ reference. self.new ≡ accepted self.old (seek (reference_at place) self.old.entered))
+            (λ refusal. self.new ≡ self.old) }
+    {
+        let (index, reference) = match self.acceptable(place) {
+            Ok(found) => found,
+            Err(refusal) => return Err(refusal),
+        };
         self.entered.remove(index);
-        self.busy[usize::from(bank)] = true;
+        self.busy[usize::from(bank_of(reference.address))] = true;
         Ok(reference)
     }
 

@@ -1,5 +1,5 @@
 -- Pending: the instructions in issue order that have an effect still to come. Source: ours.
-use Rattle.std.specs.Prelude.{ℕ, Bool, true, false, ◌||◌, ◌==◌, List, Option, Some, None}
+use Rattle.std.specs.Prelude.{ℕ, Bool, true, false, ◌||◌, ◌==◌, nat_lt, List, Option, Some, None}
 use Rattle.instructions.specs.declared.instr.Reg.{Reg}
 use Rattle.relocation.specs.declared.area.Access.{Access}
 use Rattle.relocation.specs.declared.area.Access.TheVariants.{Load, Store}
@@ -16,6 +16,10 @@ use Rattle.in_flight.specs.declared.pending.Outstanding.TheVariants.{Entered, Ac
 use Rattle.in_flight.specs.declared.pending.Phase.{Phase}
 use Rattle.in_flight.specs.declared.pending.Phase.TheVariants.{Before, After}
 use Rattle.in_flight.specs.declared.pending.Pending.{Pending}
+
+-- the instruction was issued before the reservation with this number
+unfoldable pub is_before : ℕ → Pending → Bool
+is_before number m = nat_lt m.number number
 
 -- ---- the scoreboard's view ----
 

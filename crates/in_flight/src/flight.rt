@@ -24,6 +24,7 @@ ghost use Rattle.in_flight.specs.Apart.{IsApart};
 
 use crate::slots::Slots;
 use crate::{Arrival, Located, Outstanding, Pending, Phase, Relocated, Stage};
+use arrayvec::ArrayVec;
 use hopper::{Hopper, Reference};
 use instruction_table::{Instr, Refusal, Unit};
 use registers::RegisterFile;
@@ -139,6 +140,27 @@ impl InFlight {
         self.slots.oldest()
     }
 
+    /// The instructions in flight, in issue order.
+    pub fn pending(&self) -> ArrayVec<Pending, 22>
+        ensures { result.items ≡ self.now.pending }
+    {
+        self.slots.pending()
+    }
+
+    /// First order: the unit that an issue of an instruction would reserve, and the number of that reservation.
+    ///
+    /// # Errors
+    /// The first that applies: `UnitBusy` or `ResultReserved`.
+    pub fn may_reserve(&self, instr: &Instr) -> Result<(Unit, u64), Refusal>
+        requires number { self.now.last + 1 < 2 ^ 64 }
+        ensures answer { (place : SomePosition)
+            → refusal_of (reservation_tests self.now.pending (Taking instr.now place)) ≡ refusal_in result }
+        ensures reservation { IfOk result
+            (λ reserved. (reserved.0 ≡ unit_taken self.now instr.now) × (reserved.1 ≡ suc self.now.last)) }
+    {
+        self.board.may_reserve(instr)
+    }
+
     /// First order: reserves a unit for an instruction of the word at `at`. Returns the unit and the reservation's
     /// number.
     ///
@@ -166,6 +188,26 @@ impl InFlight {
         reserved
     }
 
+    /// Second order: the instruction in the unit, if it may read its operands.
+    ///
+    /// # Errors
+    /// The first that applies: `Nothing` or `OperandAwaited`.
+    pub fn may_read(&self, unit: Unit) -> Result<Pending, Refusal>
+        ensures answer { refusal_of (tests_found (seek (stage_at unit) self.now.pending)
+            (λ f. read_tests f.answer f.earlier f.item.instr)) ≡ refusal_in result }
+        ensures pending { IfOk result (λ pending. located (seek (stage_at unit) self.now.pending)
+            ≡ Some (record { pending = pending; answer = Unread })) }
+    {
+        let Some(found) = self.slots.find_stage(unit) else {
+            return Err(Refusal::Nothing);
+        };
+        let Stage::Unread = found.answer else {
+            return Err(Refusal::Nothing);
+        };
+        self.board.may_read(unit)?;
+        Ok(found.pending)
+    }
+
     /// Second order: reads the operands of the unit's instruction. Returns the instruction as it waited, and the
     /// operands.
     ///
@@ -187,14 +229,11 @@ impl InFlight {
             (λ m. in_phase m (Before (Read read.1)) ∷ [])))
             (λ refusal. self.new ≡ self.old) }
     {
-        let Some(found) = self.slots.find_stage(unit) else {
-            return Err(Refusal::Nothing);
+        let pending = match self.may_read(unit) {
+            Ok(pending) => pending,
+            Err(refusal) => return Err(refusal),
         };
-        let Stage::Unread = found.answer else {
-            return Err(Refusal::Nothing);
-        };
-        self.board.may_read(unit)?;
-        let read = reading(&found.pending, registers);
+        let read = reading(&pending, registers);
         self.slots.set_stage(unit, Stage::Read(read.1));
         self.board.mark_read(unit);
         Ok(read)
@@ -264,6 +303,17 @@ impl InFlight {
         self.board.release(unit);
     }
 
+    /// The reference in a place of the hopper, if memory may accept it.
+    ///
+    /// # Errors
+    /// The first that applies: `Nothing`, `BankBusy` or `OlderAtAddress`.
+    pub fn may_accept(&self, place: u8) -> Result<Reference, Refusal>
+        ensures { refusal_of (tests_found (seek (entry_at place) self.now.pending)
+            (λ f. accept_tests self.now.busy f.earlier f.answer)) ≡ refusal_in result }
+    {
+        self.hopper.may_accept(place)
+    }
+
     /// Accepts the reference in a place of the hopper, whose bank is then busy. A load then has its word in its
     /// channel, and of a store nothing is left. Returns the reference; a store is still to be written to memory.
     ///
@@ -295,6 +345,24 @@ impl InFlight {
         accepted
     }
 
+    /// Third order: the load in a channel, with its instruction, if it may return.
+    ///
+    /// # Errors
+    /// The first that applies: `Nothing` or `ResultHeld`.
+    pub fn may_return(&self, channel: u8) -> Result<Located<Arrival>, Refusal>
+        requires apart { Pairs IsApart self.now.pending }
+        ensures answer { refusal_of (tests_found (seek (arrival_at channel) self.now.pending)
+            (λ f. return_tests f.earlier f.answer)) ≡ refusal_in result }
+        ensures found { IfOk result (λ found. located (seek (arrival_at channel) self.now.pending) ≡ Some found) }
+        ensures range { IfOk result (λ found. channel < 8) }
+    {
+        let Some(found) = self.slots.find_arrival(channel) else {
+            return Err(Refusal::Nothing);
+        };
+        self.board.may_return(channel)?;
+        Ok(found)
+    }
+
     /// Third order: completes the load in a channel. Returns the word and its register's number.
     ///
     /// # Errors
@@ -310,10 +378,10 @@ impl InFlight {
             (replaced (seek (arrival_at channel) self.old.pending) self.old.pending (λ m. [])))
             (λ refusal. self.new ≡ self.old) }
     {
-        let Some(found) = self.slots.find_arrival(channel) else {
-            return Err(Refusal::Nothing);
+        let found = match self.may_return(channel) {
+            Ok(found) => found,
+            Err(refusal) => return Err(refusal),
         };
-        self.board.may_return(channel)?;
         self.slots.returned(channel);
         self.board.returned(channel);
         Ok(found.answer)

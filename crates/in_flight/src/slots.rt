@@ -1,13 +1,15 @@
-ghost use Rattle.std.specs.Prelude.{◌≡◌, ◌<◌, ◌∷◌, ◌++◌, [], length, Some, None, is_none, slice_index_or, IfSome};
-ghost use Rattle.std.specs.List.{list_all};
+ghost use Rattle.std.specs.Prelude.{◌≡◌, ◌<◌, ◌≤◌, ◌+◌, nat_lt, ◌∷◌, ◌++◌, [], length, Some, None, is_none, slice_index_or, IfSome};
+ghost use Rattle.std.specs.List.{list_all, position};
 ghost use Rattle.instructions.specs.Each.{Each};
 ghost use Rattle.in_flight.specs.declared.pending.Phase.TheVariants.{Before, After};
 ghost use Rattle.in_flight.specs.declared.pending.Stage.TheVariants.{Unread};
 ghost use Rattle.instructions.specs.Finding.{seek, replaced};
 ghost use Rattle.in_flight.specs.Lookup.{stage_at, entry_at, arrival_at, in_phase, kept, located, first_of};
-ghost use Rattle.in_flight.specs.inner.Slots.{HasRoom, has_none, lower_of, lowest_of};
+ghost use Rattle.in_flight.specs.inner.Slots.{HasRoom, has_none, lower_of, lowest_of, number_of, with_slot, with_slots};
+ghost use Rattle.instructions.specs.Order.{insert_by};
 
 use crate::{Arrival, Outstanding, Pending, Phase, Stage};
+use arrayvec::ArrayVec;
 use hopper::Reference;
 use instruction_table::Unit;
 use std::marker::Model;
@@ -89,6 +91,48 @@ fn lowest(slots: &[Option<Pending>]) -> Option<Pending>
     found
 }
 
+/// The position of the first instruction with a greater number.
+fn first_above(list: &[Pending], number: u64) -> Option<usize>
+    ensures { result ≡ position (λ other. nat_lt number other.number) list.now }
+{
+    list.iter().position(|other| number < other.number)
+}
+
+/// Inserts an instruction before the first one with a greater number.
+fn insert(list: &mut ArrayVec<Pending, 22>, pending: Pending)
+    requires { length list.old.items < 22 }
+    ensures items { list.new.items ≡ insert_by number_of pending list.old.items }
+    ensures room { length list.new.items ≡ length list.old.items + 1 }
+{
+    match first_above(list.as_slice(), pending.number) {
+        Some(place) => list.insert(place, pending),
+        None => list.push(pending),
+    }
+}
+
+/// Inserts the instruction in a slot, if there is one.
+#[tactic(auto, unfolding(crate::specs::inner::Slots::with_slot))]
+fn insert_slot(list: &mut ArrayVec<Pending, 22>, slot: &Option<Pending>)
+    requires { length list.old.items < 22 }
+    ensures items { list.new.items ≡ with_slot slot.now list.old.items }
+    ensures room { length list.new.items ≤ length list.old.items + 1 }
+{
+    if let Some(pending) = slot {
+        insert(list, *pending);
+    }
+}
+
+/// Inserts the instructions in slots, beginning with the last slot.
+fn insert_slots(list: &mut ArrayVec<Pending, 22>, slots: &[Option<Pending>])
+    requires { length list.old.items + length slots.now ≤ 22 }
+    ensures items { list.new.items ≡ with_slots slots.now list.old.items }
+    ensures room { length list.new.items ≤ length list.old.items + length slots.now }
+{
+    for index in (0..slots.len()).rev() {
+        insert_slot(list, &slots[index]);
+    }
+}
+
 impl Slots {
     /// Slots in which nothing is pending.
     pub fn new() -> Slots
@@ -120,6 +164,17 @@ impl Slots {
     {
         let referring = lower(&lowest(&self.places), &lowest(&self.channels));
         lower(&lowest(&self.units), &referring)
+    }
+
+    /// The pending instructions, in issue order.
+    pub fn pending(&self) -> ArrayVec<Pending, 22>
+        ensures { result.items ≡ self.now }
+    {
+        let mut list = ArrayVec::new();
+        insert_slots(&mut list, &self.channels);
+        insert_slots(&mut list, &self.places);
+        insert_slots(&mut list, &self.units);
+        list
     }
 
     /// The instruction that holds the unit, with its stage.

@@ -73,18 +73,17 @@ impl Board {
         }
     }
 
-    /// First order: reserves the lower-numbered free unit of the instruction's kind. Returns the unit and the number of
-    /// the reservation, which is one more than the last. A refusal changes nothing (Control Data 60100000, unit and
+    /// First order: the lower-numbered free unit of the instruction's kind, which an issue of the instruction would
+    /// reserve, and the number of that reservation, which is one more than the last (Control Data 60100000, unit and
     /// register conflicts; that the lower-numbered unit is taken is this project's choice).
     ///
     /// # Errors
     /// `UnitBusy` if no unit of the kind is free; it names the lower-numbered unit. Otherwise `ResultReserved` if an
     /// issued instruction is still to write one of the result registers; it names the first of them, A before X.
-    pub fn try_reserve(&mut self, instr: &Instr) -> Result<(Unit, u64), Refusal>
-        requires { self.old.last + 1 < 2 ^ 64 }
-        ensures answer { result ≡ reserve_answer self.old instr.now
-            (unit_for reservation_of self.old.issued (uses instr.now).unit) }
-        ensures after { self.new ≡ reserved self.old instr.now result }
+    pub fn may_reserve(&self, instr: &Instr) -> Result<(Unit, u64), Refusal>
+        requires { self.now.last + 1 < 2 ^ 64 }
+        ensures { result ≡ reserve_answer self.now instr.now
+            (unit_for reservation_of self.now.issued (uses instr.now).unit) }
     {
         let Some(unit) = free_unit(&self.units, instr) else {
             return Err(Refusal::UnitBusy(first_unit(instr)));
@@ -92,12 +91,29 @@ impl Board {
         let results = results(instr);
         let taken = self.writers.of(results.as_slice());
         let mut pairs = results.as_slice().iter().zip(taken.iter());
-        if let Some((register, _)) = pairs.find(|(_, writer)| writer.is_some()) {
-            return Err(Refusal::ResultReserved(*register));
+        match pairs.find(|(_, writer)| writer.is_some()) {
+            Some((register, _)) => Err(Refusal::ResultReserved(*register)),
+            None => Ok((unit, self.last + 1)),
         }
+    }
+
+    /// First order: makes the reservation of `may_reserve`, and returns its unit and its number. A refusal changes
+    /// nothing.
+    ///
+    /// # Errors
+    /// Those of `may_reserve`.
+    pub fn try_reserve(&mut self, instr: &Instr) -> Result<(Unit, u64), Refusal>
+        requires { self.old.last + 1 < 2 ^ 64 }
+        ensures answer { result ≡ reserve_answer self.old instr.now
+            (unit_for reservation_of self.old.issued (uses instr.now).unit) }
+        ensures after { self.new ≡ reserved self.old instr.now result }
+    {
+        let (unit, number) = match self.may_reserve(instr) {
+            Ok(reservation) => reservation,
+            Err(refusal) => return Err(refusal),
+        };
         let index = unit as usize;
         let sources = sources(instr);
-        let number = self.last + 1;
         self.producers[index] = self.writers.of(sources.as_slice());
         self.units[index] = Some(Issued {
             number,

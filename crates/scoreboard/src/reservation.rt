@@ -71,7 +71,7 @@ impl Reservation {
 
     /// The results still to come of the instruction.
     #[tactic(auto, unfolding(crate::specs::Reservations::to_come, crate::specs::Reservations::to_come_in))]
-    fn to_come(&self) -> ArrayVec<Reg, 2>
+    pub fn to_come(&self) -> ArrayVec<Reg, 2>
         ensures { result.items ≡ to_come self.now }
     {
         match self.occupancy {
@@ -82,7 +82,7 @@ impl Reservation {
 
     /// The sources that the instruction has yet to read.
     #[tactic(auto, unfolding(crate::specs::Reservations::reads, crate::specs::Reservations::reads_in))]
-    fn reads(&self) -> ArrayVec<Reg, 3>
+    pub fn reads(&self) -> ArrayVec<Reg, 3>
         ensures { result.items ≡ reads self.now }
     {
         match self.occupancy {

@@ -292,6 +292,7 @@ def nothing(why):
 # ---- the limits ----
 
 REGISTERS = nothing("an instruction has two results and three operands at most, which is proved at each push")
+SLOTS = nothing("there are ten units, four places of the hopper and eight channels")
 PARCELS = nothing("an instruction has one parcel or two, which is proved at each push")
 TOO_MANY_LINES = check("large", "MOST_LINES", "too_many")
 LONG_LINES = repeated("READ_OF_A_LINE", check("mutations", "{less}, {value}, {more}"))
@@ -380,7 +381,7 @@ LIMITS = {
     ),
     ("refused_line/src/texts.rt", "BEFORE"): nothing("no text begins before the word and its blank end"),
     ("refused_line/src/texts.rt", "PARCELS_OF_A_WORD"): too_full(),
-    ("embedding/src/contents.rt", "LINES"): nothing("the lines of five channels have at most 350 bytes"),
+    ("embedding/src/contents.rt", "LINES"): nothing("23 reserved registers have lines of less than 900 bytes"),
     ("embedding/src/outcome.rt", "FAULT_LINE"): nothing("the longest fault line has 47 bytes"),
     ("embedding/src/outcome.rt", "NO_MACHINE"): nothing("it is the number of a status"),
     ("embedding/src/outcome.rt", "NOT_DRAINED"): nothing("it is the number of a status"),
@@ -391,6 +392,9 @@ LIMITS = {
     ("instruction_table/src/encoding.rt", "ArrayVec<u16, "): PARCELS,
     ("instructions/src/registers.rt", "ArrayVec<Reg, "): REGISTERS,
     ("scoreboard/src/reservation.rt", "ArrayVec<Reg, "): REGISTERS,
+    ("in_flight/src/slots.rt", "ArrayVec<Pending, "): SLOTS,
+    ("in_flight/src/flight.rt", "ArrayVec<Pending, "): SLOTS,
+    ("machine/src/processor.rt", "ArrayVec<Pending, "): SLOTS,
     # Patterns of bits.
     ("deck/src/coding.rt", "PASS"): BITS,
     ("word60/src/word18.rt", "ONES"): BITS,

@@ -53,7 +53,7 @@ class Tool(unittest.TestCase):
         self.assertEqual(list(HEADINGS), list(found))
         for heading, text in {
             "definition": "in_flight/specs/Pending.antt", "contract": "Reference::keeps_order",
-            "code": "Err(Refusal::OlderAtAddress)", "proof": "hopper/proofs/hopper/Hopper/accept/Answers.antt:1:",
+            "code": "Err(Refusal::OlderAtAddress)", "proof": "hopper/proofs/hopper/Hopper/acceptable/Answers.antt:1:",
             "wrong body": "hopper/wrong-bodies/load_before_an_older_store.edit",
             "test": "core_tests/src/hopper_tests.rt", "deck": "decks/sessions/one-word.answers",
             "tool": "drawing/judging.py", "page": "docs/proof/calls.md",

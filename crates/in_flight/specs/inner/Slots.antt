@@ -4,7 +4,7 @@ use Rattle.std.specs.Prelude.{Option, Some, None, length}
 use Rattle.instructions.specs.declared.instr.Unit.{Unit as FunctionalUnit}
 use Rattle.scoreboard.specs.Units.{unit_number}
 use Rattle.instructions.specs.Each.{Each, Pairs}
-use Rattle.instructions.specs.Order.{sort_by, somes, IsInSlots}
+use Rattle.instructions.specs.Order.{insert_by, sort_by, somes, IsInSlots}
 use Rattle.in_flight.specs.declared.pending.Outstanding.{Outstanding}
 use Rattle.in_flight.specs.declared.pending.Outstanding.TheVariants.{Entered, Accepted}
 use Rattle.in_flight.specs.declared.pending.Phase.{Phase}
@@ -68,3 +68,13 @@ lower_of (Some a) (Some b) = if nat_lt a.number b.number then Some a else Some b
 unfoldable pub lowest_of : List (Option Pending) → Option Pending
 lowest_of [] = None
 lowest_of (o ∷ os) = lower_of o (lowest_of os)
+
+-- the list after the instruction in this slot, if there is one, was inserted by its number
+unfoldable pub with_slot : Option Pending → List Pending → List Pending
+with_slot None ms = ms
+with_slot (Some m) ms = insert_by number_of m ms
+
+-- the list after the instructions in these slots were inserted, beginning with the last slot
+unfoldable pub with_slots : List (Option Pending) → List Pending → List Pending
+with_slots [] ms = ms
+with_slots (o ∷ os) ms = with_slot o (with_slots os ms)

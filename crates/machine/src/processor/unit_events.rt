@@ -1,8 +1,9 @@
-ghost use Rattle.std.specs.Prelude.{◌≡◌, MatchResult};
+ghost use Rattle.std.specs.Prelude.{◌≡◌, IfOk, MatchResult};
 ghost use Rattle.program_order.specs.declared.event.Event.TheVariants.{Read, Finish, Store};
 ghost use Rattle.program_order.specs.Run.{answer_of, settled};
 ghost use Rattle.in_flight.specs.Tests.{refusal_in};
 ghost use Rattle.program_order.specs.Events.{allowed, after};
+ghost use Rattle.machine.specs.inner.Storing.{IsStoreOf};
 
 use crate::processor::made;
 use crate::{Answer, Machine};
@@ -33,11 +34,13 @@ impl Machine {
         made(&judged)
     }
 
-    /// Stores a unit's result, makes its jump or its reference, and releases the unit.
-    pub(crate) fn store_result(&mut self, unit: Unit) -> Result<(), Refusal>
-        ensures answer { allowed self.old (Store unit) ≡ refusal_in result }
-        ensures after { MatchResult result (λ _. self.new ≡ after self.old (Store unit))
-            (λ refusal. self.new ≡ self.old) }
+    /// What the store of a unit's result does: its work, and the reference that it makes, if it makes one.
+    ///
+    /// # Errors
+    /// The first that applies: `Nothing`, `ResultHeld`, `HopperFull` or `OutOfTurn`.
+    pub(crate) fn may_store(&self, unit: Unit) -> Result<(Work, Option<Relocated>), Refusal>
+        ensures answer { allowed self.now (Store unit) ≡ refusal_in result }
+        ensures work { IfOk result (λ store. IsStoreOf self.now unit store.0 store.1) }
     {
         let Some(Located { pending, answer }) = self.in_flight.find(unit) else {
             return Err(Refusal::Nothing);
@@ -49,6 +52,19 @@ impl Machine {
         let size = self.state.memory.size();
         let reference = Relocated::of(&self.state.area, size, &work.reference);
         self.in_flight.may_store(unit, &reference)?;
+        Ok((work, reference))
+    }
+
+    /// Stores a unit's result, makes its jump or its reference, and releases the unit.
+    pub(crate) fn store_result(&mut self, unit: Unit) -> Result<(), Refusal>
+        ensures answer { allowed self.old (Store unit) ≡ refusal_in result }
+        ensures after { MatchResult result (λ _. self.new ≡ after self.old (Store unit))
+            (λ refusal. self.new ≡ self.old) }
+    {
+        let (work, reference) = match self.may_store(unit) {
+            Ok(store) => store,
+            Err(refusal) => return Err(refusal),
+        };
         self.state.write_and_jump(&work);
         self.in_flight.leave(unit, &reference);
         Ok(())

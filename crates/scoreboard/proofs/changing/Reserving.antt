@@ -1,7 +1,7 @@
 -- A unit is reserved: who writes which register then, and what the board stands for.
 use Rattle.std.proofs.Common.{◌≡◌, ◌<◌, ◌≤◌, ℕ, zero, suc, Bool, true, false, cond, List, [], ◌∷◌, ◌++◌, Option, Some}
 use Rattle.std.proofs.Common.{None, refl, sym, ap, ◌∙◌, subst, eqb, get_or, set, length, arith}
-use Rattle.std.specs.Prelude.{is_some, ◌&&◌, ◌||◌, IfSome, unwrap_or, find, Ok, Err, option_to_list}
+use Rattle.std.specs.Prelude.{is_some, ◌&&◌, ◌||◌, IfSome, unwrap_or, find, Result, Ok, Err, option_to_list}
 use Rattle.std.specs.List.{list_any}
 use Rattle.std.proofs.lemmas.Bool.{eq-eqb, eqb-true, eqb-false, le-ltb, lt-ltb, or_parts}
 use Rattle.std.proofs.lemmas.List.{length-set, length-append, set-append_left, get_or_append_left, get_or-set_same}
@@ -201,7 +201,7 @@ first_is_free f (v ∷ us) u h = by_test (first_is_free f us u) (f v) refl h
     by_test rest true e k = rest k
     by_test rest false e k = let q : v ≡ u = cc in ap f (sym q) ∙ e
 
-none_there : (o : Option Issued) → is_some o ≡ false → o ≡ None
+none_there : {K : Type 0} (o : Option K) → is_some o ≡ false → o ≡ None
 none_there None h = refl
 none_there (Some x) h = cc
 
@@ -260,6 +260,33 @@ reserved_answer s i o u n e t k =
     ∙ sym (ap (λ b. cond b (Err (ResultReserved (first_such (awaited reservation_of s.issued) (results (shape_of i)))))
     (Ok (u, suc s.last))) (any_find (awaited reservation_of s.issued) (results (shape_of i)) ∙ ap is_some t))
     ∙ ap (reserve_answer s i) (sym e)
+
+same_reservation : (p q : FunctionalUnit × ℕ) (r : Result (FunctionalUnit × ℕ) Refusal) → r ≡ Ok p → r ≡ Ok q → p ≡ q
+same_reservation p q r h k = cc
+
+-- an allowed reservation takes the free unit of the kind and the next number, and none of the results is still to come
+pub reservable : (s : Standing) (i : Instr) (o : Option FunctionalUnit) (u : FunctionalUnit) (n : ℕ)
+    → reserve_answer s i o ≡ Ok (u, n)
+    → (o ≡ Some u) × (n ≡ suc s.last) × (find (awaited reservation_of s.issued) (results (shape_of i)) ≡ None)
+unfolding reserve_answer
+reservable s i None u n h = cc
+reservable s i (Some v) u n h =
+    by_test (list_any (awaited reservation_of s.issued) (results (shape_of i))) refl h
+  where
+    answer : Bool → Result (FunctionalUnit × ℕ) Refusal
+    answer b = cond b (Err (ResultReserved (first_such (awaited reservation_of s.issued) (results (shape_of i)))))
+        (Ok (v, suc s.last))
+
+    by_test : (b : Bool) → list_any (awaited reservation_of s.issued) (results (shape_of i)) ≡ b
+        → answer b ≡ Ok (u, n) → (Some v ≡ Some u) × (n ≡ suc s.last)
+        × (find (awaited reservation_of s.issued) (results (shape_of i)) ≡ None)
+    by_test true t k = cc
+    by_test false t k =
+        let q = same_reservation (v, suc s.last) (u, n) (Ok (v, suc s.last)) refl k in (
+          ap (λ x. Some x.0) q,
+          ap (λ x. x.1) (sym q),
+          none_there _ (sym (any_find (awaited reservation_of s.issued) (results (shape_of i))) ∙ t),
+        )
 
 -- ---- what holds then ----
 

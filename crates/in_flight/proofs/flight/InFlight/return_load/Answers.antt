@@ -1,59 +1,25 @@
-use Rattle.std.proofs.Common.{◌≡◌, [], sym, ap, ◌∙◌, subst}
-use Rattle.std.proofs.lemmas.Result.{err_from_is_err_and}
-use Rattle.std.specs.Prelude.{IfSome, Some}
+use Rattle.std.proofs.Common.{◌≡◌, [], sym, subst}
+use Rattle.std.specs.Prelude.{Some}
 use Rattle.instructions.specs.Each.{Pairs}
 use Rattle.scoreboard.specs.Answers.{returning_by, gone}
 use Rattle.in_flight.specs.Flight.{Flight}
 use Rattle.instructions.specs.Finding.{replaced, seek}
 use Rattle.in_flight.specs.Apart.{IsApart}
-use Rattle.in_flight.specs.Tests.{refusal_in, refusal_of, tests_found, return_tests}
-use Rattle.in_flight.specs.Lookup.{arrival_at}
-use Rattle.in_flight.proofs.answering.Beside.{nothing_there, return_answered, return_tied, what_there, changed_flight}
+use Rattle.in_flight.specs.Lookup.{arrival_at, located}
+use Rattle.in_flight.proofs.answering.Beside.{return_tied, what_there, changed_flight}
 use Rattle.in_flight.proofs.flight.InFlight.return_load.Goals as goal
-
-pub returns-in_default-clause-answer : goal.returns-in_default-clause-answer
-returns-in_default-clause-answer c =
-    sym (ap (λ (f : Flight). refusal_of
-    (tests_found (seek (arrival_at c.args.channel) f.pending)
-    (λ f. return_tests f.earlier f.answer))) c.self.view_is)
-    ∙ nothing_there (seek (arrival_at c.args.channel) c.self.inside.slots) _
-    (sym c.find_arrival.ensures.found ∙ c.in_default.is)
-
-pub returns-in_err-may_return-clause-answer : goal.returns-in_err-may_return-clause-answer
-returns-in_err-may_return-clause-answer c =
-    let p = err_from_is_err_and c.from_residual.result c.from_residual.ensures.1 in
-    sym (ap (λ (f : Flight). refusal_of
-    (tests_found (seek (arrival_at c.args.channel) f.pending)
-    (λ f. return_tests f.earlier f.answer))) c.self.view_is)
-    ∙ return_answered c.args.channel c.self.inside.slots c.self.inside.board.issued c.in-Some.found _
-    c.self.invariant.boarded (subst (λ (f : Flight). Pairs IsApart f.pending) (sym c.self.view_is)
-    c.requires.apart) (sym c.find_arrival.ensures.found ∙ c.in-Some.is) (sym c.in_err-may_return.was ∙
-    c.may_return.ensures)
-    ∙ sym (ap refusal_in p.1 ∙ ap Some p.2)
 
 pub invariant_of-self : goal.invariant_of-self
 invariant_of-self c =
     return_tied c.args.channel c.self.inside.slots c.returned.new.self c.self.inside.hopper c.self.inside.board
-    c.returned-2.new.self c.in-Some.found
+    c.returned-2.new.self c.in-Ok.found
     (subst (λ (f : Flight). Pairs IsApart f.pending) (sym c.self.view_is) c.requires.apart)
-    (sym c.find_arrival.ensures.found ∙ c.in-Some.is) c.self.invariant c.returned.ensures c.returned-2.ensures
-
-pub returns-clause-answer : goal.returns-clause-answer
-returns-clause-answer c =
-    sym (ap (λ (f : Flight). refusal_of
-    (tests_found (seek (arrival_at c.args.channel) f.pending)
-    (λ f. return_tests f.earlier f.answer))) c.self.view_is)
-    ∙ return_answered c.args.channel c.self.inside.slots c.self.inside.board.issued c.in-Some.found _
-    c.self.invariant.boarded (subst (λ (f : Flight). Pairs IsApart f.pending) (sym c.self.view_is)
-    c.requires.apart) (sym c.find_arrival.ensures.found ∙ c.in-Some.is) (sym c.in_ok-may_return.was
-    ∙ c.may_return.ensures)
+    (subst (λ (f : Flight). located (seek (arrival_at c.args.channel) f.pending) ≡ Some c.in-Ok.found)
+    (sym c.self.view_is) c.in-Ok.ensures.found) c.self.invariant c.returned.ensures c.returned-2.ensures
 
 pub returns-clause-arrival : goal.returns-clause-arrival
 returns-clause-arrival c =
-    subst (λ (f : Flight). IfSome (seek (arrival_at c.args.channel) f.pending)
-    (λ f. f.answer ≡ c.in-Some.found.answer)) c.self.view_is
-    (what_there (seek (arrival_at c.args.channel) c.self.inside.slots) c.in-Some.found
-    (sym c.find_arrival.ensures.found ∙ c.in-Some.is))
+    what_there (seek (arrival_at c.args.channel) c.args.self.now.pending) c.in-Ok.found c.in-Ok.ensures.found
 
 pub returns-clause-after : goal.returns-clause-after
 returns-clause-after c =
