@@ -1,10 +1,11 @@
--- The contents of the machine's units, hopper, load channels and banks, its request for an exchange and its next
--- instruction, as lines of text. Source: ours.
+-- The contents of the machine's units, hopper, load channels and banks, its request for an exchange, its next
+-- instruction, its reserved registers and its unread operands, as lines of text. Source: ours.
 use Rattle.std.specs.Prelude.{ℕ, Bool, false, if◌then◌else◌, List, [], ◌∷◌, Option, Some, None, codes, decimal}
-use Rattle.std.specs.Prelude.{◌+◌, ◌++◌, slice_index_or}
+use Rattle.std.specs.Prelude.{◌+◌, ◌++◌, ◌&&◌, find, slice_index_or}
 use Rattle.std.specs.List.{concat, flat_map}
 use Rattle.word60.specs.Words.{octal_text}
 use Rattle.instructions.specs.Finding.{seek}
+use Rattle.instructions.specs.declared.instr.Reg.{Reg}
 use Rattle.instructions.specs.declared.instr.Unit.{Unit as FunctionalUnit}
 use Rattle.instructions.specs.declared.instr.Unit.TheVariants as unit
 use Rattle.instruction_table.specs.Spelling.{spelling}
@@ -17,6 +18,7 @@ use Rattle.sequential.specs.State.{bounds_of}
 use Rattle.sequential.specs.Step.{fetch}
 use Rattle.relocation.specs.declared.area.Access.{Access}
 use Rattle.relocation.specs.declared.area.Access.TheVariants.{Load, Store}
+use Rattle.scoreboard.specs.Reservations.{comes, reads, to_come}
 use Rattle.hopper.specs.declared.reference.Reference.{Reference}
 use Rattle.in_flight.specs.declared.pending.Arrival.{Arrival}
 use Rattle.in_flight.specs.declared.pending.Pending.{Pending}
@@ -24,12 +26,14 @@ use Rattle.in_flight.specs.declared.pending.Stage.{Stage}
 use Rattle.in_flight.specs.declared.pending.Stage.TheVariants.{Unread, Read, Finished}
 use Rattle.in_flight.specs.declared.slots.Located.{Located}
 use Rattle.in_flight.specs.Lookup.{arrival_at, entry_at, located, stage_at}
+use Rattle.in_flight.specs.Pending.{is_before, reservation_of}
 use Rattle.program_order.specs.Processor.{Processor}
-use Rattle.device_text.specs.Names.{unit_text}
+use Rattle.device_text.specs.Names.{register_text, unit_text}
 use Rattle.device_text.specs.Pieces.{code_text, trimmed}
 use Rattle.job_deck.specs.Dump.{addresses}
 use Rattle.contents_text.specs.declared.contents.Part.{Part}
 use Rattle.contents_text.specs.declared.contents.Part.TheVariants.{Units, Hopper, Channels, Banks, Request, NextInstruction}
+use Rattle.contents_text.specs.declared.contents.Part.TheVariants.{ReservedRegisters, UnreadOperands}
 
 -- the word for the stage of the instruction in a unit
 abbrev pub stage_text : Stage → List ℕ
@@ -123,6 +127,43 @@ position_text position = concat (trimmed (octal_text 20 position.p) ∷ codes " 
 abbrev pub next_text : State → List ℕ
 next_text s = concat (position_text s.position ∷ fetched_text (fetch (bounds_of s) s.memory s.position) ∷ codes "\n" ∷ [])
 
+-- the line of a register that an instruction is still to write: the register, the number of the reservation and the
+-- instruction
+abbrev pub reserved_line : Pending → Reg → List ℕ
+reserved_line m register = concat (register_text register ∷ codes " " ∷ decimal m.number ∷ codes " "
+    ∷ spelling m.instr ∷ codes "\n" ∷ [])
+
+-- the lines of the registers that an instruction is still to write
+abbrev pub reserved_of : Pending → List ℕ
+reserved_of m = flat_map (reserved_line m) (to_come (reservation_of m))
+
+-- a line for each register that one of the pending instructions is still to write
+abbrev pub reserved_text : List Pending → List ℕ
+reserved_text pending = flat_map reserved_of pending
+
+-- the register is a result still to come of this writer, which was issued before the reader
+abbrev pub awaits : Pending → Reg → Pending → Bool
+awaits reader register writer = is_before reader.number writer && comes register (reservation_of writer)
+
+-- the line of an operand that the reader is still to read: the number of its reservation and the register, and then the
+-- number of the earlier reservation that is still to write the register, if there is one
+abbrev pub line_with : Pending → Reg → Option Pending → List ℕ
+line_with reader register None = concat (decimal reader.number ∷ codes " " ∷ register_text register ∷ codes "\n" ∷ [])
+line_with reader register (Some writer) = concat (decimal reader.number ∷ codes " " ∷ register_text register ∷ codes " "
+    ∷ decimal writer.number ∷ codes "\n" ∷ [])
+
+-- the line of an operand while these instructions are pending
+abbrev pub operand_line : List Pending → Pending → Reg → List ℕ
+operand_line pending reader register = line_with reader register (find (awaits reader register) pending)
+
+-- the lines of the operands that the reader is still to read
+abbrev pub unread_of : List Pending → Pending → List ℕ
+unread_of pending reader = flat_map (operand_line pending reader) (reads (reservation_of reader))
+
+-- a line for each operand that one of the pending instructions is still to read
+abbrev pub unread_text : List Pending → List ℕ
+unread_text pending = flat_map (unread_of pending) pending
+
 -- the contents of a part of the machine
 abbrev pub contents_text : Part → Processor → List ℕ
 contents_text Units w = units_text w.pending
@@ -131,3 +172,5 @@ contents_text Channels w = channels_text w.pending
 contents_text Banks w = banks_text w.busy
 contents_text Request w = request_text w.request
 contents_text NextInstruction w = next_text w.state
+contents_text ReservedRegisters w = reserved_text w.pending
+contents_text UnreadOperands w = unread_text w.pending

@@ -6,6 +6,7 @@ ghost use Rattle.contents_text.specs.Contents.{access_text, arrival_line, bank_l
 ghost use Rattle.contents_text.specs.Contents.{contents_text, entry_line, hopper_text, request_text, stage_text, unit_line};
 ghost use Rattle.contents_text.specs.Contents.{fetched_text, next_text, position_text, units_text};
 
+use crate::conflicts::{put_reserved, put_unread};
 use device_text::{Output, Piece, WriteFailed, put_pieces};
 use in_flight::Stage;
 use instruction_table::{Halt, Unit};
@@ -14,7 +15,7 @@ use relocation::Access;
 use sequential::{Fetched, ProgramPosition, State};
 
 /// The number of places in the hopper.
-const PLACES: u8 = 4;
+pub(crate) const PLACES: u8 = 4;
 
 /// The number of the first load channel.
 const FIRST_CHANNEL: u8 = 1;
@@ -40,6 +41,10 @@ pub enum Part {
     Request,
     /// The instruction that is issued next.
     NextInstruction,
+    /// The registers that pending instructions are still to write.
+    ReservedRegisters,
+    /// The operands that pending instructions are still to read.
+    UnreadOperands,
 }
 
 /// The word for the stage of the instruction in a unit.
@@ -264,5 +269,7 @@ pub fn put_contents<O: Output>(
         Part::Banks => put_banks(output, machine),
         Part::Request => put_request(output, machine),
         Part::NextInstruction => put_next(output, machine.state()),
+        Part::ReservedRegisters => put_reserved(output, machine.pending().as_slice()),
+        Part::UnreadOperands => put_unread(output, machine.pending().as_slice()),
     }
 }

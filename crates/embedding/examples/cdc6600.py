@@ -20,7 +20,8 @@ BUDGET = 1_000_000
 # An address at which `advance` never stops.
 NO_ADDRESS = 0xFFFFFFFF
 # The parts of a machine whose contents a call prints.
-PARTS = ("units", "hopper", "channels", "banks", "request", "next_instruction")
+PARTS = ("units", "hopper", "channels", "banks", "request", "next_instruction", "reserved_registers",
+         "unread_operands")
 
 
 class Outcome(ctypes.Structure):
@@ -51,7 +52,8 @@ class Library:
 
     def __init__(self, file):
         self.library = ctypes.CDLL(str(file))
-        for name in ("run", "list", "replay", "events", "boot", "event", "next", "log", "dump", "read_words", *PARTS):
+        for name in ("run", "list", "replay", "events", "boot", "event", "judge", "next", "log", "dump", "read_words",
+                     *PARTS):
             getattr(self.library, f"cdc6600_{name}").restype = Outcome
         for name, answered in (("version", ctypes.c_size_t), ("drain", ctypes.c_uint32), ("advance", ctypes.c_uint64),
                                ("is_drained", ctypes.c_bool), ("read_registers", ctypes.c_uint8), ("free", None)):
@@ -121,6 +123,11 @@ class Machine:
     def event(self, text):
         """Makes the event that a text says. It is called once, so there has to be room for the answer."""
         return self.calls.call("cdc6600_event", self.given, text, capacity=128)
+
+    def judge(self, text):
+        """Judges the event that a text says; the line of the answer that it would get, and the number of each
+        reservation that holds it back, a line each."""
+        return self.calls.call("cdc6600_judge", self.given, text)
 
     def next(self):
         """Makes the next event; the line that says it, and that of its answer."""

@@ -167,6 +167,29 @@ extern "C" {
         line: *mut u8,
         line_capacity: usize,
     ) -> Outcome;
+    pub fn cdc6600_reserved_registers(
+        machine: *mut Machine,
+        output: *mut u8,
+        output_capacity: usize,
+        line: *mut u8,
+        line_capacity: usize,
+    ) -> Outcome;
+    pub fn cdc6600_unread_operands(
+        machine: *mut Machine,
+        output: *mut u8,
+        output_capacity: usize,
+        line: *mut u8,
+        line_capacity: usize,
+    ) -> Outcome;
+    pub fn cdc6600_judge(
+        machine: *mut Machine,
+        event: *const u8,
+        event_length: usize,
+        output: *mut u8,
+        output_capacity: usize,
+        line: *mut u8,
+        line_capacity: usize,
+    ) -> Outcome;
     pub fn cdc6600_read_registers(machine: *mut Machine, registers: *mut Registers) -> u8;
     pub fn cdc6600_read_words(
         machine: *mut Machine,

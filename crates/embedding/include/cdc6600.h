@@ -147,7 +147,7 @@ struct cdc6600_outcome cdc6600_dump(struct cdc6600_machine *machine,
 
 /* The calls below print the contents of a part of the machine as lines, and allocate nothing. CDC6600_CONTENTS is a
  * buffer size for each of them. */
-#define CDC6600_CONTENTS 640
+#define CDC6600_CONTENTS 1280
 
 /* Prints a line for each functional unit that an instruction holds, in the order of the units' numbers: the name of the
  * unit, the number of the reservation, `issued`, `read` or `finished`, and the instruction, as in
@@ -185,6 +185,28 @@ struct cdc6600_outcome cdc6600_request(struct cdc6600_machine *machine,
 struct cdc6600_outcome cdc6600_next_instruction(struct cdc6600_machine *machine,
                                                 uint8_t *output, size_t output_capacity,
                                                 uint8_t *line, size_t line_capacity);
+
+/* Prints a line for each register that an issued instruction is still to write, in issue order: the register, the number
+ * of the reservation, and the instruction, as in `X1 1 SA1 B0+10`. */
+struct cdc6600_outcome cdc6600_reserved_registers(struct cdc6600_machine *machine,
+                                                  uint8_t *output, size_t output_capacity,
+                                                  uint8_t *line, size_t line_capacity);
+
+/* Prints a line for each operand that an issued instruction is still to read, in issue order: the number of the
+ * reservation and the register, and then, if an earlier instruction is still to write the register, the number of that
+ * reservation, as in `3 X1 1`. */
+struct cdc6600_outcome cdc6600_unread_operands(struct cdc6600_machine *machine,
+                                                uint8_t *output, size_t output_capacity,
+                                                uint8_t *line, size_t line_capacity);
+
+/* Tells what cdc6600_event would answer to a line, without making the event. Output gets the line of the answer. If
+ * issued instructions hold the event back, a line with the number of the reservation follows for each, in issue order.
+ * Only a want of memory isn't foretold. Status and fault line are those of cdc6600_event, and CDC6600_CONTENTS is a
+ * buffer size. */
+struct cdc6600_outcome cdc6600_judge(struct cdc6600_machine *machine,
+                                     const uint8_t *event, size_t event_length,
+                                     uint8_t *output, size_t output_capacity,
+                                     uint8_t *line, size_t line_capacity);
 
 /* The registers of a machine. B0 is 0. */
 struct cdc6600_registers {

@@ -88,6 +88,9 @@ export class Machine {
   boot(deck: Text, budget?: number | bigint): Ran;
   /** Makes or refuses the event of a schedule line, such as `read longadd`; prints the answer. */
   event(line: Text): Ran;
+  /** Judges the event of a schedule line without making it; prints the answer that it would get, and a line with the
+   * number of each reservation that holds it back. */
+  judge(line: Text): Ran;
   /** Makes the event that a drain would make next, or an exchange or an issue; prints its line and the answer. */
   next(): Ran;
   /** Makes the next event up to `most` times, and stops at the first instruction of the word at `address`, relative to
@@ -113,6 +116,11 @@ export class Machine {
   request(): Ran;
   /** Prints the instruction that is issued next: `1 1 IX4 X2-X1`. */
   nextInstruction(): Ran;
+  /** Prints a line for each register that an issued instruction is still to write: `X1 1 SA1 B0+10`. */
+  reservedRegisters(): Ran;
+  /** Prints a line for each operand that an issued instruction is still to read, with the reservation that is still to
+   * write it, if there is one: `3 X1 1`. */
+  unreadOperands(): Ran;
   /** The registers as they are now. */
   registers(): Registers;
   /** Words of memory as they are now, from an absolute address on: as many as there are, and at most `count`. */

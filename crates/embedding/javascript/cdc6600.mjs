@@ -293,6 +293,12 @@ export class Machine {
     return checked(this.#calls.print("cdc6600_event", [this.#address, bytesOf(line)], ANSWER).ran);
   }
 
+  /** The line of the answer that the event of a line would get, and the number of each reservation that holds the event
+   * back, a line each. */
+  judge(line) {
+    return this.#calls.printAll("cdc6600_judge", [this.#address, bytesOf(line)]);
+  }
+
   next() {
     return checked(this.#calls.print("cdc6600_next", [this.#address], ANSWER).ran);
   }
@@ -343,6 +349,16 @@ export class Machine {
   /** The instruction that is issued next, as a line with P, the parcel and its text. */
   nextInstruction() {
     return this.#calls.printAll("cdc6600_next_instruction", [this.#address]);
+  }
+
+  /** A line for each register that an issued instruction is still to write. */
+  reservedRegisters() {
+    return this.#calls.printAll("cdc6600_reserved_registers", [this.#address]);
+  }
+
+  /** A line for each operand that an issued instruction is still to read. */
+  unreadOperands() {
+    return this.#calls.printAll("cdc6600_unread_operands", [this.#address]);
   }
 
   get isDrained() {

@@ -1,10 +1,8 @@
 -- The calls that keep a machine for C: their results, and their effect on the machine.
 -- Source: ours.
 use Rattle.std.specs.Prelude.{◌≡◌, ◌⊎◌, ℕ, true, false, if◌then◌else◌, List, [], ◌∷◌, ◌++◌, length, drop}
-use Rattle.std.specs.Prelude.{Option, Some, None, is_none, is_some, unwrap_or, Result, Ok, Err, codes, decimal, ⊤}
+use Rattle.std.specs.Prelude.{Option, Some, None, is_none, is_some, unwrap_or, Result, Ok, Err, ⊤}
 use Rattle.std.specs.Prelude.{◌+◌, ◌-◌, ◌*◌}
-use Rattle.std.specs.List.{concat}
-use Rattle.word60.specs.Words.{octal_text}
 use Rattle.instructions.specs.declared.instr.Op.{Op}
 use Rattle.instructions.specs.declared.instr.Op.TheVariants.{Plain, Extended}
 use Rattle.instructions.specs.declared.refusal.Refusal.{Refusal}
@@ -26,8 +24,8 @@ use Rattle.program_order.specs.Run.{IsAnswer, settled}
 use Rattle.deck.specs.Deck.{Reading, Good, Bad, deck}
 use Rattle.device_text.specs.declared.output.WriteFailed.{WriteFailed}
 use Rattle.device_text.specs.Device.{Writes}
-use Rattle.device_text.specs.Names.{unit_text}
-use Rattle.device_text.specs.Pieces.{trimmed}
+use Rattle.contents_text.specs.Events.{event_line}
+use Rattle.contents_text.specs.Holding.{judgement_text}
 use Rattle.job_deck.specs.AnswerText.{answer_line}
 use Rattle.job_deck.specs.Dump.{log_text}
 use Rattle.job_deck.specs.Schedule.{line_says}
@@ -152,21 +150,6 @@ idle_event w = if is_none (allowed w events.Exchange) then events.Exchange else 
 abbrev pub next_event : Processor → Event
 next_event w = unwrap_or (next_of w.pending w.busy) (idle_event w)
 
--- the schedule line of an event
-abbrev pub event_line : Event → List ℕ
-event_line events.Issue = codes "issue\n"
-event_line (events.Read u) = concat (codes "read " ∷ unit_text u ∷ codes "\n" ∷ [])
-event_line (events.Finish u) = concat (codes "finish " ∷ unit_text u ∷ codes "\n" ∷ [])
-event_line (events.Store u) = concat (codes "store " ∷ unit_text u ∷ codes "\n" ∷ [])
-event_line (events.Accept p) = concat (codes "accept " ∷ decimal p ∷ codes "\n" ∷ [])
-event_line (events.Return c) = concat (codes "return " ∷ decimal c ∷ codes "\n" ∷ [])
-event_line (events.BankFree k) = concat (codes "bank " ∷ decimal k ∷ codes "\n" ∷ [])
-event_line (events.Ask a) = concat (codes "ask " ∷ trimmed (octal_text 20 a) ∷ codes "\n" ∷ [])
-event_line events.Exchange = codes "exchange\n"
-event_line (events.PpRead a) = concat (codes "ppread " ∷ trimmed (octal_text 20 a) ∷ codes "\n" ∷ [])
-event_line (events.PpWrite a w) = concat (codes "ppwrite " ∷ trimmed (octal_text 20 a) ∷ codes " "
-    ∷ trimmed (octal_text 20 w) ∷ codes "\n" ∷ [])
-
 -- a call makes the next event, and copies its schedule line and the line of its answer to the caller
 abbrev pub MakesNext : Booted → Booted → Outcome → List ℕ → List ℕ → Type 0
 MakesNext b c outcome old new = MakesEvent (next_event b.machine) (event_line (next_event b.machine)) b c outcome old new
@@ -180,6 +163,20 @@ pub record IsDrainedBy (b c : Booted) (count : ℕ) : Type 0 where
   pub deck : c.deck ≡ b.deck
 
 -- ---- reading a machine ----
+
+-- the outcome of a call that judges the event of a line of a schedule. Any other line is refused as a line, and so are
+-- `end` and `drain`, which say no event
+abbrev pub JudgesLine : ScheduleLine → Booted → Outcome → List ℕ → List ℕ → Type 0
+JudgesLine (Makes e) b outcome old new = HandsOverText (judgement_text b.machine e) outcome old new
+JudgesLine Ends b outcome old new = HandsOver outcome
+    (Err (faults.Refused (refusals.Deck 1 line_faults.Unknown))) [] old new
+JudgesLine Drains b outcome old new = HandsOver outcome
+    (Err (faults.Refused (refusals.Deck 1 line_faults.Unknown))) [] old new
+JudgesLine (Faulty fault) b outcome old new = HandsOver outcome (Err (faults.Refused (refusals.Deck 1 fault))) [] old new
+
+-- the same for the text of a line
+abbrev pub JudgesText : List ℕ → Booted → Outcome → List ℕ → List ℕ → Type 0
+JudgesText text b outcome old new = JudgesLine (text_says text) b outcome old new
 
 -- a call copies as much as fits of the dump of a drained machine. If memory runs out that is a prefix of the dump, or
 -- nothing

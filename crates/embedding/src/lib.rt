@@ -12,10 +12,12 @@
 ghost use Rattle.std.specs.Prelude.{◌≡◌, None, false, length, not};
 ghost use Rattle.in_flight.specs.Lookup.{is_pending};
 ghost use Rattle.embedding.specs.Advance.{Advances};
-ghost use Rattle.contents_text.specs.Contents.{banks_text, channels_text, hopper_text, next_text, request_text, units_text};
+ghost use Rattle.contents_text.specs.Contents.{unread_text, banks_text, channels_text, hopper_text, next_text};
+ghost use Rattle.contents_text.specs.Contents.{request_text, reserved_text, units_text};
 ghost use Rattle.embedding.specs.Embedding.{HasRun, IsListed, IsReplayed, IsSession, filled};
 ghost use Rattle.embedding.specs.Keeping.{OnMachine, IsSilent, no_machine, HasBooted, DoesText, MakesNext};
-ghost use Rattle.embedding.specs.Keeping.{HandsOverText, IsDrainedBy, IsDumped, IsLogged, TellsRegisters, TellsWords};
+ghost use Rattle.embedding.specs.Keeping.{HandsOverText, IsDrainedBy, IsDumped, IsLogged, JudgesText, TellsRegisters};
+ghost use Rattle.embedding.specs.Keeping.{TellsWords};
 ghost use Rattle.embedding.specs.Version.{version};
 
 mod advancing;
@@ -23,7 +25,6 @@ mod booted;
 mod box_parts;
 mod commands;
 mod contents;
-mod event_text;
 mod input_bytes;
 mod machine_handle;
 mod outcome;
@@ -358,6 +359,63 @@ pub extern "C" fn cdc6600_next_instruction(
         (λ b c. (c ≡ b) × HandsOverText (next_text b.machine.state) result output.old output.new) }
 {
     show_contents(alloc, machine, Part::NextInstruction, output, line)
+}
+
+/// Copies a line to `output` for each register that an issued instruction is still to write, in issue order: the
+/// register, the number of the reservation and the instruction.
+#[unsafe(no_mangle)]
+pub extern "C" fn cdc6600_reserved_registers(
+    alloc: Global,
+    machine: &mut MachineHandle,
+    output: &mut [u8],
+    line: &mut [u8],
+) -> Outcome
+    ensures { OnMachine machine.old.owned.machine machine.new.owned.machine
+        (IsSilent no_machine result output.old output.new)
+        (λ b c. (c ≡ b) × HandsOverText (reserved_text b.machine.pending) result output.old output.new) }
+{
+    show_contents(alloc, machine, Part::ReservedRegisters, output, line)
+}
+
+/// Copies a line to `output` for each operand that an issued instruction is still to read, in issue order: the number of
+/// the reservation and the register, and then, if an earlier instruction is still to write the register, the number of
+/// that reservation.
+#[unsafe(no_mangle)]
+pub extern "C" fn cdc6600_unread_operands(
+    alloc: Global,
+    machine: &mut MachineHandle,
+    output: &mut [u8],
+    line: &mut [u8],
+) -> Outcome
+    ensures { OnMachine machine.old.owned.machine machine.new.owned.machine
+        (IsSilent no_machine result output.old output.new)
+        (λ b c. (c ≡ b) × HandsOverText (unread_text b.machine.pending) result output.old output.new) }
+{
+    show_contents(alloc, machine, Part::UnreadOperands, output, line)
+}
+
+/// Judges the event that a schedule line says, without making it. The output is the line of the answer that the event
+/// would get, and, if issued instructions hold the event back, a line with the number of each, in issue order.
+#[unsafe(no_mangle)]
+pub extern "C" fn cdc6600_judge(
+    alloc: Global,
+    machine: &mut MachineHandle,
+    event: &[u8],
+    output: &mut [u8],
+    line: &mut [u8],
+) -> Outcome
+    ensures { OnMachine machine.old.owned.machine machine.new.owned.machine
+        (IsSilent no_machine result output.old output.new)
+        (λ b c. (c ≡ b) × JudgesText event.now b result output.old output.new) }
+{
+    match machine.take(alloc) {
+        Some(booted) => {
+            let outcome = contents::judge_line(&booted, event, output, line);
+            machine.put(booted);
+            outcome
+        }
+        None => silent(NO_MACHINE),
+    }
 }
 
 /// Reads the registers as they are now, even if the machine isn't drained. Returns the status.

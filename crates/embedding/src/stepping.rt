@@ -1,7 +1,8 @@
 ghost use Rattle.std.specs.Prelude.{◌≡◌, ◌∷◌, ◌++◌, [], Err};
 ghost use Rattle.program_order.specs.Reached.{GoesOn};
 ghost use Rattle.program_order.specs.Run.{IsAnswer, settled};
-ghost use Rattle.embedding.specs.Keeping.{DoesText, HandsOverText, MakesEvent, MakesNext, IsDrainedBy, event_line, idle_event, next_event};
+ghost use Rattle.embedding.specs.Keeping.{DoesText, HandsOverText, MakesEvent, MakesNext, IsDrainedBy, idle_event, next_event};
+ghost use Rattle.contents_text.specs.Events.{event_line};
 ghost use Rattle.embedding.specs.Keeping.{text_says, written_end};
 ghost use Rattle.job_deck.specs.AnswerText.{answer_line};
 ghost use Rattle.embedding.specs.Embedding.{HandsOver};
@@ -9,9 +10,9 @@ ghost use Rattle.instructions.specs.declared.refusal.Refusal.TheVariants.{Deck a
 ghost use Rattle.operator_terms.specs.declared.fault.ProgramFault.TheVariants.{Refused};
 
 use crate::booted::Booted;
-use crate::event_text::put_event;
 use crate::outcome::{Outcome, hand_over};
 use arrayvec::ArrayVec;
+use contents_text::put_event;
 use instruction_table::{DeckFault, Refusal};
 use job_deck::{CheckedWriter, ScheduleLine, WriteFailed, parse_schedule_line, put_answer};
 use machine::{Answer, Event, Machine};
@@ -65,7 +66,7 @@ fn make_event(booted: &mut Booted, event: Event, output: &mut [u8], line: &mut [
 }
 
 /// Parses a text as the only line of a schedule.
-fn line_said(text: &[u8]) -> ScheduleLine
+pub fn line_said(text: &[u8]) -> ScheduleLine
     ensures { result ≡ text_says text.now }
 {
     if text.len() > LONGEST_LINE {
@@ -75,7 +76,7 @@ fn line_said(text: &[u8]) -> ScheduleLine
 }
 
 /// Refuses a line because of a fault.
-fn refuse_line(fault: DeckFault, output: &mut [u8], line: &mut [u8]) -> Outcome
+pub fn refuse_line(fault: DeckFault, output: &mut [u8], line: &mut [u8]) -> Outcome
     ensures { HandsOver result (Err (Refused (RefusedLine 1 fault))) [] output.old output.new }
 {
     let refusal = Refusal::Deck { line: 1, fault };

@@ -1,6 +1,6 @@
-//! Tests of the contents of a machine's parts, as lines of text.
+//! Tests of the contents of a machine's parts and of the instructions that hold an event back, as lines of text.
 
-use contents_text::{Part, put_contents};
+use contents_text::{Part, put_contents, put_judgement};
 use instruction_table::{Refusal, Unit};
 use job_deck::{CheckedWriter, booted, read_deck};
 use machine::{Event, Machine};
@@ -8,7 +8,7 @@ use std::alloc::Global;
 use std::process::Abort;
 use std::test::Fail;
 
-/// A deck with SA1 B0+17 and SA2 B0+16, which are followed by a stop. The word at 117 (octal) is 5.
+/// A deck with SA1 B0+17, SA2 B0+16 and IX3 X1+X2, which are followed by a stop. The word at 117 (octal) is 5.
 const DECK: &str = "\
     core 256\n\
     at 41\n\
@@ -16,13 +16,14 @@ const DECK: &str = "\
     word 00000020000000000000\n\
     at 100\n\
     word 51100000175120000016\n\
+    word 36312000000000000000\n\
     at 117\n\
     word 5\n\
     start 40\n\
     end\n";
 
-/// The events up to the entry of the first load into the hopper and the issue of the second.
-const ENTERED: [Event; 7] = [
+/// The events up to the entry of the first load into the hopper and the issue of the two other instructions.
+const ENTERED: [Event; 8] = [
     Event::Ask(0o40),
     Event::Exchange,
     Event::Issue,
@@ -30,10 +31,11 @@ const ENTERED: [Event; 7] = [
     Event::Finish(Unit::Increment1),
     Event::Store(Unit::Increment1),
     Event::Issue,
+    Event::Issue,
 ];
 
 /// How many of these events are made before memory accepts the first load, if it does; a part, and its contents.
-const CONTENTS: [(usize, bool, Part, &str); 9] = [
+const CONTENTS: [(usize, bool, Part, &str); 12] = [
     (0, false, Part::Request, ""),
     (1, false, Part::Request, "40\n"),
     (2, false, Part::NextInstruction, "0 0 SA1 B0+17\n"),
@@ -47,7 +49,26 @@ const CONTENTS: [(usize, bool, Part, &str); 9] = [
         "1 1 00000000000000000005 SA1 B0+17\n",
     ),
     (7, true, Part::Banks, "15\n"),
-    (7, true, Part::NextInstruction, "1 0 PS\n"),
+    (7, true, Part::NextInstruction, "1 0 IX3 X1+X2\n"),
+    (
+        7,
+        false,
+        Part::ReservedRegisters,
+        "X1 1 SA1 B0+17\nA2 2 SA2 B0+16\nX2 2 SA2 B0+16\n",
+    ),
+    (7, false, Part::UnreadOperands, ""),
+    (8, true, Part::UnreadOperands, "3 X1 1\n3 X2 2\n"),
+];
+
+/// Events after those of `ENTERED`, with the answer that each would get and the instructions that hold it back.
+const JUDGEMENTS: [(Event, &str); 7] = [
+    (Event::Issue, "ok\n"),
+    (Event::Read(Unit::Increment1), "ok\n"),
+    (Event::Read(Unit::LongAdd), "E9 operand awaited X1\n1\n"),
+    (Event::Store(Unit::LongAdd), "E15 nothing\n"),
+    (Event::Accept(0), "ok\n"),
+    (Event::PpRead(0o117), "E26 peripheral waits\n1\n2\n"),
+    (Event::PpRead(0), "E26 peripheral waits\n2\n"),
 ];
 
 /// The machine after the first events.
@@ -83,6 +104,29 @@ fn contents_of_parts(rt: HostRuntime) -> Result<(), Fail> {
     for (made, is_accepted, part, wanted) in &CONTENTS {
         let machine = after(rt.alloc(), &ENTERED[..*made], *is_accepted)?;
         expect_contents(&rt, &machine, *part, wanted)?;
+    }
+    Ok(())
+}
+
+/// Expects the judgement of an event.
+fn expect_judgement(
+    rt: &(impl Abort + AllocGlobal),
+    machine: &Machine,
+    event: Event,
+    wanted: &str,
+) -> Result<(), Fail> {
+    let mut text = Vec::new(rt.alloc());
+    let mut output = CheckedWriter::new(&mut text);
+    put_judgement(&mut output, machine, event)?;
+    assert!(rt; text.as_slice() == wanted.as_bytes(), "{wanted}");
+    Ok(())
+}
+
+#[test]
+fn judgements(rt: HostRuntime) -> Result<(), Fail> {
+    let machine = after(rt.alloc(), &ENTERED, false)?;
+    for (event, wanted) in &JUDGEMENTS {
+        expect_judgement(&rt, &machine, *event, wanted)?;
     }
     Ok(())
 }

@@ -1,6 +1,6 @@
 use Rattle.device_text.proofs.Putting.{puts_cut, puts_after}
-use Rattle.embedding.specs.Keeping.{event_line}
-use Rattle.embedding.proofs.event_text.put_event.Goals as goal
+use Rattle.contents_text.specs.Events.{event_line}
+use Rattle.contents_text.proofs.events.put_event.Goals as goal
 
 pub returns-in_err-put_pieces : goal.returns-in_err-put_pieces
 returns-in_err-put_pieces g c =

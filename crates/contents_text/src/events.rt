@@ -5,11 +5,11 @@ ghost use Rattle.device_text.specs.Names.{unit_text};
 ghost use Rattle.device_text.specs.Pieces.{text_of_all, trimmed};
 ghost use Rattle.device_text.specs.Putting.{Puts};
 ghost use Rattle.job_deck.specs.AnswerText.{answer_line};
-ghost use Rattle.embedding.specs.Keeping.{event_line};
+ghost use Rattle.contents_text.specs.Events.{event_line};
 
-use device_text::{Piece, put_pieces};
+use device_text::{Output, Piece, WriteFailed, put_pieces};
 use instruction_table::Unit;
-use job_deck::{Output, WriteFailed, put_answer};
+use job_deck::put_answer;
 use machine::{Answer, Event};
 
 /// The line of an event that names nothing.
@@ -90,6 +90,9 @@ fn event_pieces(event: Event) -> [Piece<'static>; 5]
 }
 
 /// Writes the schedule line of an event and the line of its answer.
+///
+/// # Errors
+/// Fails if a write fails. The output then has a prefix of the text.
 pub fn put_event<O: Output>(
     output: &mut O,
     event: Event,
