@@ -94,7 +94,8 @@ if (kind === "refused") {
   ["ask 40", "exchange"].forEach((it) => act(it));
 }
 document.getElementById("until").requestSubmit();
-return kind === "refused" ? driven.answerTo("issue").split(" ")[0] : `${driven.steps.length} ${driven.last.event}`;
+const { answer } = driven.asking.judge("issue");
+return kind === "refused" ? answer.split(" ")[0] : `${driven.steps.length} ${driven.last.event}`;
 """
 
 # Chooses an example and makes so many next events; what the listing marks as next.

@@ -7,7 +7,9 @@ what they and the library's functions print and tell with what is stored for the
 - A machine that is kept, by the same example: for each session its events made one by one have the stored answers, and
   its log, dump, registers and words are those of the dump. The events that cdc6600_next makes are answered as a session
   of their lines answers them, and lead to the dump of the deck's run, and so do those of cdc6600_advance, which stops
-  at an address. After each event the contents of units, hopper, channels and banks are those of the session's drawing.
+  at an address. After each event, in sessions that are drawn too, the contents of the parts, the reserved registers and
+  the awaited operands are those of the session's drawing, and so are the answer that each event would get and the
+  reservations that hold it back.
   Lines that say no event, calls without a machine and with one that isn't drained, and a machine in place of another.
 - The examples in C and in Rust on each deck and each session; those in C and Python with files that aren't there, with
   an output that can't be written, and, in Python, with a reader that leaves and an interrupt.

@@ -119,6 +119,9 @@ class Machine:
     def event(self, text):
         return self.call("event", text)
 
+    def judge(self, text):
+        return self.call("judge", text)
+
     def next(self):
         return self.call("next")
 
@@ -130,7 +133,8 @@ class Machine:
 
     def contents(self, part):
         """The lines of a part of the machine."""
-        return self.call("nextInstruction" if part == "next_instruction" else part)
+        first, *others = part.split("_")
+        return self.call(first + "".join(map(str.capitalize, others)))
 
     def advance(self, most, *address):
         return self.node.ask("advance", self.number, most, *address).get("count")

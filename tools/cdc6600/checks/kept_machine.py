@@ -1,11 +1,19 @@
 """What tools/check embedding tries of a machine that is kept: its calls, by the class of the example in Python."""
 
+import random
 import re
+from dataclasses import dataclass
 
-from cdc6600.drawing.following import Following, Session
-from cdc6600.drawing.states import State
+from cdc6600.drawing.following import PLACES, Following, Session
+from cdc6600.drawing.instructions import KINDS, NAMES, kind_of, operands_of, stores
+from cdc6600.drawing.judging import Judge
+from cdc6600.drawing.states import CHANNELS, State
+from cdc6600.drawing.values import text_now
+from cdc6600.limits import BANKS
 from cdc6600.shared.decks import deck, log_of, session
 from cdc6600.shared.program import Ran
+
+from .drawn_sessions import DrawnDeck, Driver
 
 MISSING, NOT_DRAINED, REFUSED, USAGE = 8, 9, 1, 2
 LONGEST_LINE = 200
@@ -31,6 +39,28 @@ code PS
 start 40
 end
 """
+# The result of the third instruction is held by the second one, and the fourth, a later reader, doesn't hold it.
+LATER_READER = b"""core 256
+at 41
+word 00000100000000000000
+word 00000020000000000000
+at 100
+code SA2 B0+10; BX3 X1*X2; NO
+code SX1 B0+5; IX4 X1+X1; PS
+start 40
+end
+ask 40
+exchange
+issue
+issue
+issue
+issue
+issue
+read increment2
+finish increment2
+store increment2
+end
+"""
 REFUSED_OPCODE = """core 256
 at 41
 word 00000100000000000000
@@ -42,6 +72,19 @@ end
 """
 # The units in the order of their numbers.
 UNITS = ("branch", "boolean", "shift", "longadd", "divide", "increment1", "increment2")
+# The events that are judged in each state, those that the page in a browser offers among them; `ask` for the package of
+# the deck is one more.
+JUDGED = (
+    "exchange", "issue", *(f"{kind} {unit}" for unit in NAMES for kind in ("read", "finish", "store")),
+    *(f"accept {place}" for place in range(PLACES)), *(f"return {channel}" for channel in CHANNELS),
+    *(f"bank {bank}" for bank in range(BANKS)), "ppread 0", "ppread 110", "ppwrite 120 17", "ppread 777777",
+    "ask 777777", "accept 9", "return 0", "bank 40",
+)
+# The seeds of the sessions that are drawn, and how many events each one has.
+SEEDS, DRAWN_EVENTS = range(8), 100
+# Refusals for which the library has no holders: the reservation that set the fault flag, or whose reference made the
+# bank busy, may be carried out.
+WITHOUT_HOLDERS = ("E2", "E13")
 
 # The class Machine of the example in Python, which tools/check embedding loads.
 Machine = None
@@ -125,52 +168,81 @@ def faults_of_events(make, it):
         return faults + differing(f"the dump of {it}, which isn't drained", (b"", b"", NOT_DRAINED), machine.dump())
 
 
-def contents_of(following, state, log):
-    """The lines that tell the contents of each part of a machine in this state and with this log, but for the words of
-    the channels."""
-    rows, stores = following.rows, re.compile(r"SA[67] |RJ ")
+def contents_of(judge):
+    """The lines that tell the contents of each part of a machine in the state of a judge, but for the words of the
+    channels; those of the next instruction if no branch is pending."""
+    state, rows = judge.state, judge.rows
     held = [(unit, state.units[unit]) for unit in UNITS if unit in state.units]
     waiting = [(place, row, rows[row]) for place, row in sorted(state.places.items())]
     arrived = [(channel, row) for channel, row in sorted(state.channels.items()) if row in state.loaded]
-    return {
+    reserved = sorted((row, register) for register, row in state.registers.items())
+    unread = sorted(row for row, phase in state.phases.items() if phase == "issued")
+    found = {
         "units": [f"{unit} {row} {state.phases[row]} {rows[row].text}" for unit, row in held],
-        "hopper": [f"{place} {row} {it.address:o} {'store' if stores.match(it.text) else 'load'} {it.text}"
+        "hopper": [f"{place} {row} {it.address:o} {'store' if stores(it.text) else 'load'} {it.text}"
                    for place, row, it in waiting],
         "channels": [f"{channel} {row} {rows[row].text}" for channel, row in arrived],
         "banks": [f"{bank}" for bank in sorted(state.banks)],
         "request": [state.asked] * bool(state.asked),
-        "next_instruction": [next_line(following.replays, log)],
+        "reserved_registers": [f"{register} {row} {rows[row].text}" for row, register in reserved],
+        "unread_operands": [line for row in unread for line in unread_lines(judge, row)],
     }
+    return found if "branch" in state.units else {**found, "next_instruction": [next_line(judge)]}
 
 
-def is_next_known(following, state):
-    """Whether no pending branch or store can change the instruction that is issued next."""
-    pending = [row for part in (state.units, state.places) for row in part.values()]
-    stores = any(re.match(r"SA[67] |RJ ", following.rows[row].text) for row in pending)
-    return not stores and "branch" not in state.units
+def unread_lines(judge, row):
+    """The lines of the operands that a reservation is still to read, each once, without B0."""
+    writers = dict(judge.awaited(row))
+    operands = operands_of(judge.rows[row].text)
+    return [" ".join(map(str, [row, it, *([writers[it]] if it in writers else [])])) for it in operands]
 
 
-def next_line(replays, log):
-    """The line of the instruction that is issued next after a log."""
-    p, parcel = replays.number(log, 0, 1), replays.field(log, 0, 3)
-    return f"{p:o} {parcel} {replays.instruction(log) or '?fetch'}"
+def next_line(judge):
+    """The line of the instruction that is issued next."""
+    p, parcel = judge.replays.number(judge.log, 0, 1), judge.replays.field(judge.log, 0, 3)
+    return f"{p:o} {parcel} {text_now(judge) or '?fetch'}"
 
 
 def lines_of_contents(machine, part):
-    """The lines that the library prints of a part; of a channel without its word."""
-    printed, told, status = machine.contents(part)
-    lines = printed.decode().splitlines()
-    if part == "channels":
-        lines = [re.sub(r"^(\d \d+) [0-7]{20} ", r"\1 ", line) for line in lines]
-    return lines if (told, status) == (b"", 0) else [f"status {status}, {told}"]
+    """The lines that the library prints of a part; of a channel without its word, and of operands without B0 and what
+    comes twice."""
+    lines = lines_of(machine.contents(part))
+    if part == "unread_operands":
+        return list(dict.fromkeys(line for line in lines if " B0" not in line))
+    return [re.sub(r"^(\d \d+) [0-7]{20} ", r"\1 ", line) for line in lines] if part == "channels" else lines
+
+
+def lines_of(came):
+    """The lines that a call prints, or how it fails."""
+    printed, told, status = came
+    return printed.decode().splitlines() if (told, status) == (b"", 0) else [f"status {status}, {told}"]
+
+
+def judgement_of(judge, event, number):
+    """The lines of the judgement of an event: its answer, and the reservations that hold it back. An issue to a unit
+    would get this number."""
+    refusal = judge.refusal(event)
+    if refusal is None:
+        return [answer_of(judge, event, number)]
+    return [refusal.answer, *(str(row) for row in refusal.rows if refusal.code not in WITHOUT_HOLDERS)]
+
+
+def answer_of(judge, event, number):
+    """The answer to an event that is made."""
+    kind, *fields = event.split(" ")
+    if kind == "ppread":
+        return f"ok {judge.replays.word(judge.log, fields[0])}"
+    units = KINDS.get(kind_of(judge.next_text), ()) if kind == "issue" else ()
+    free = [unit for unit in units if unit not in judge.state.units]
+    return f"ok {free[0]} {number}" if free else "ok"
 
 
 def faults_of_contents(make, functions, it):
-    """The contents of the parts of a machine after each event of a session, against those that the drawings show, which
-    follow the answers."""
+    """The contents of the parts of a machine after each event of a session, and how it judges events then, against what
+    the drawings show and judge, which follow the answers."""
     following = Following(Program(functions), Session(str(it), it.text.decode("latin-1")), None, None)
     following.follow()
-    faults, state = [], State()
+    faults, state, issued = [], State(), 0
     with make() as machine:
         machine.boot(it.text)
         for n, event in enumerate(following.session.events):
@@ -181,12 +253,47 @@ def faults_of_contents(make, functions, it):
             else:
                 machine.event(event.encode())
             state = state.after(following, n)
-            wanted = contents_of(following, state, following.logs[n])
-            if not is_next_known(following, state):
-                del wanted["next_instruction"]
-            faults += differing(f"the contents after event {n + 1} of {it}, {event}", wanted,
-                                {part: lines_of_contents(machine, part) for part in wanted})
+            issued += event == "issue" and following.answers[n].startswith("ok ")
+            judge, after = Judge(state, following, following.logs[n]), f"after event {n + 1} of {it}, {event}"
+            wanted = contents_of(judge)
+            came = {part: lines_of_contents(machine, part) for part in wanted}
+            faults += differing(f"the contents {after}", wanted, came)
+            faults += faults_of_judging(after, machine, judge, issued + 1)
     return faults
+
+
+def faults_of_judging(after, machine, judge, number):
+    """How a machine judges events, against how the drawings do. An issue to a unit would get this number."""
+    faults = []
+    for event in (*JUDGED, *re.findall("^start [0-7]+$", judge.replays.session.text, re.MULTILINE)):
+        event = event.replace("start", "ask")
+        came = lines_of(machine.judge(event.encode()))
+        faults += differing(f"the judgement of {event} {after}", judgement_of(judge, event, number), came)
+    return faults
+
+
+@dataclass
+class Unstored:
+    """A session that isn't stored in decks/sessions."""
+
+    name: str
+    text: bytes
+
+    def __str__(self):
+        return self.name
+
+
+def drawn_session(make, seed):
+    """A session whose deck and events are drawn, by what a machine answers to the events before."""
+    draw = random.Random(seed)
+    deck, events = DrawnDeck(draw).text(), []
+    driver = Driver(draw, deck)
+    with make() as machine:
+        machine.boot(deck.encode())
+        for _ in range(DRAWN_EVENTS):
+            events.append(driver.event())
+            driver.note(events[-1], machine.event(events[-1].encode())[0].decode().rstrip())
+    return Unstored(f"the drawn session {seed}", "\n".join([*deck.splitlines(), *events, "end", ""]).encode())
 
 
 def faults_of_arrival(make):
@@ -294,6 +401,7 @@ def faults_of_lines(make):
         for text, fault in NO_EVENTS:
             told = f"cdc6600: E20 line 1: {fault}\n".encode()
             faults += differing(f"the event {text}", (b"", told, REFUSED), machine.event(text))
+            faults += differing(f"the judgement of {text}", (b"", told, REFUSED), machine.judge(text))
         faults += differing("the log after no event", (b"none", b"", 0), machine.log())
     return faults
 
@@ -302,11 +410,12 @@ def faults_of_handles(make):
     """A handle without a machine, and with one in place of another."""
     it, refused = deck("two-adds"), b"cdc6600: E20 line 1: first\n"
     with make() as machine:
-        nothing = [machine.event(b"issue"), machine.next(), machine.log(), machine.dump(), machine.contents("units"),
-                   machine.drain(), machine.advance(1), machine.is_drained(), machine.registers()[1],
-                   machine.words(0, 1)]
+        nothing = [machine.event(b"issue"), machine.judge(b"issue"), machine.next(), machine.log(), machine.dump(),
+                   machine.contents("units"), machine.contents("reserved_registers"),
+                   machine.contents("unread_operands"), machine.drain(), machine.advance(1), machine.is_drained(),
+                   machine.registers()[1], machine.words(0, 1)]
         silent = (b"", b"", MISSING)
-        wanted = [silent, silent, silent, silent, silent, 0, 0, False, MISSING, ([], MISSING)]
+        wanted = [*[silent] * 8, 0, 0, False, MISSING, ([], MISSING)]
         faults = differing("calls without a machine", wanted, nothing)
         for budget in (0, 10_000_001):
             faults += differing(f"boot with the budget {budget}", (b"", USAGE), machine.boot(it.text, budget))
@@ -323,6 +432,9 @@ def works(make, functions, decks, sessions):
     for it in sessions:
         yield lambda it=it: faults_of_events(make, it)
         yield lambda it=it: faults_of_contents(make, functions, it)
+    yield lambda: faults_of_contents(make, functions, Unstored("a result with a later reader", LATER_READER))
+    for seed in SEEDS:
+        yield lambda seed=seed: faults_of_contents(make, functions, drawn_session(make, seed))
     for it in decks:
         yield lambda it=it: faults_of_next(make, functions.events, it)
         yield lambda it=it: faults_of_advancing(make, it)

@@ -1,7 +1,8 @@
 """Judges an event by a state: what it is refused for, and which reservations hold it back.
 
-The tests and their order are those of the table of events in docs/machine/rules.md. What an event is refused for by its
-budget or for want of memory can't be told by a state.
+This is a second reading of the rules, with which checks compare the judgements of the library. The tests and their
+order are those of the table of events in docs/machine/rules.md. What an event is refused for by its budget or for want
+of memory can't be told by a state.
 """
 
 from dataclasses import dataclass
@@ -100,9 +101,9 @@ class Judge:
         """E7 and E8, by the next instruction."""
         text = self.next_text
         units = KINDS.get(kind_of(text), ())
-        holders = tuple(self.state.units.get(unit) for unit in units)
+        holders = [self.state.units.get(unit) for unit in units]
         if units and all(holders):
-            yield Refusal("E7", units[0], holders)
+            yield Refusal("E7", units[0], tuple(sorted(holders)))
         for register in results_of(text):
             if register in self.state.registers:
                 yield Refusal("E8", register, (self.state.registers[register],))

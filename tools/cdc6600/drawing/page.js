@@ -40,14 +40,16 @@ function place(element, x, y) {
   element.setAttribute("height", Math.max(picture.getAttribute("height") - y, 0));
 }
 
-// Covers the events whose answers are hidden in the picture, and the rows of what isn't issued yet.
+// Covers the events whose answers are hidden in the picture, and the rows of what isn't issued yet. If none is hidden,
+// nothing is covered, so that the cursor keeps its lower edge.
 function showVeils() {
   const isHiding = byId("hiding").checked;
   const told = isHiding ? shown + Number(isOpen) : steps.length;
   const column = told < steps.length ? session.columns[told] : Infinity;
+  const height = byId("picture").getAttribute("height");
   place(byId("veil"), Math.min(session.left + session.column * column, session.width), session.head);
   for (const element of document.querySelectorAll(".below")) {
-    place(element, 0, session.below[told]);
+    place(element, 0, told < steps.length ? session.below[told] : height);
   }
   document.body.classList.toggle("predicting", isHiding);
 }

@@ -7,6 +7,13 @@ const byId = (id) => document.getElementById(id);
 // Whether something is shown otherwise than before the event.
 const differs = (one, other) => JSON.stringify(one) !== JSON.stringify(other);
 
+// Sets a text. One that is there already stays, because a browser lays out again what is set.
+function write(element, text) {
+  if (element.textContent !== text) {
+    element.textContent = text;
+  }
+}
+
 function mark(element, row, before, holds) {
   element.classList.toggle("taken", row !== undefined);
   element.classList.toggle("changed", differs(row, before));
@@ -18,14 +25,14 @@ function showPart(part, step, before) {
     const key = element.id.slice(part.length + 1);
     const row = step[part][key];
     mark(element, row, before[part][key], step.holds);
-    [...element.cells].slice(1).forEach((cell, at) => { cell.textContent = row ? row[at] : ""; });
+    [...element.cells].slice(1).forEach((cell, at) => write(cell, row ? row[at] : ""));
   }
 }
 
 function showMachine(step, before) {
   for (const [key, text] of Object.entries(step.machine)) {
     const element = byId(`machine-${key}`);
-    element.textContent = text;
+    write(element, text);
     element.classList.toggle("changed", text !== before.machine[key]);
   }
 }
@@ -36,7 +43,7 @@ function showBanks(step, before) {
     mark(element, step.banks[key], before.banks[key], step.holds);
   }
   const busy = Object.entries(step.banks).map(([bank, row]) => `${bank} by ${row[1]} (reservation ${row[0]})`);
-  byId("busy").textContent = busy.length ? `Busy: ${busy.join(", ")}.` : "None is busy.";
+  write(byId("busy"), busy.length ? `Busy: ${busy.join(", ")}.` : "None is busy.");
 }
 
 function showRegisters(step, before) {
@@ -63,7 +70,7 @@ function showRegisters(step, before) {
 function showValues(after, changed) {
   for (const element of document.querySelectorAll(".values tbody tr")) {
     const name = element.id.slice("values-".length);
-    after[name].forEach((text, at) => { element.cells[at + 1].textContent = text; });
+    after[name].forEach((text, at) => write(element.cells[at + 1], text));
     element.classList.toggle("changed", name in changed);
   }
 }

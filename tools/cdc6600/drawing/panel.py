@@ -10,6 +10,7 @@ from .following import PLACES
 from .instructions import NAMES, UNITS
 from .sentences import said
 from .states import CHANNELS, RUNNING
+from .values import text_now
 
 
 class Panel:
@@ -47,7 +48,7 @@ class Panel:
             return said("panel branch")
         judge = self.judge
         parcel = judge.replays.field(judge.log, 0, 3) if judge.is_held else ""
-        return said("panel next", text=judge.next_text, address=f"{judge.replays.number(judge.log, 0, 1):o}",
+        return said("panel next", text=text_now(judge), address=f"{judge.replays.number(judge.log, 0, 1):o}",
                     parcel=parcel)
 
     def units(self):

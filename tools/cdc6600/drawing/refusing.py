@@ -48,8 +48,8 @@ def halted(_judge, _event, refusal):
 def unit_busy(judge, _event, refusal):
     """E7."""
     kind = next(units for units in KINDS.values() if refusal.named in units)
-    has = [said("unit has", unit=NAMES[unit], it=reservation(judge.rows, row))
-           for unit, row in zip(kind, refusal.rows)]
+    has = [said("unit has", unit=NAMES[unit], it=reservation(judge.rows, judge.state.units[unit]))
+           for unit in kind if refusal.rows]
     if len(has) < 2:
         by = reservations(judge.rows, refusal.rows)
         units = said("E7 one", unit=NAMES[refusal.named], by=by) if has else said("E7 none")

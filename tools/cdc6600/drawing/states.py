@@ -1,8 +1,9 @@
 """Says what each part of the machine has after each event of a session.
 
 The events are followed by following.py, which puts a mark for each one that is made into the row of its reservation. A
-state goes by these marks, and by the rules of docs/machine/rules.md where the answers don't
-tell: which banks are busy, which registers are results still to come, whether the machine is halted or faulted.
+state goes by these marks, and by the rules of docs/machine/rules.md where the answers don't tell: which banks are busy,
+which registers are results still to come, whether the machine is halted or faulted. This is a second reading of these
+rules, with which checks compare what the library tells.
 """
 
 import copy

@@ -48,6 +48,17 @@ def storing(judge):
     return sorted((row for row in waiting if stores(rows[row].text) and rows[row].address is not None), reverse=True)
 
 
+def text_now(judge):
+    """The text of the next instruction by the word that memory has now, empty if that is out of range. A pending store
+    to the word changes it later."""
+    replays, log = judge.replays, judge.log
+    address = None if judge.is_held else replays.absolute(log, replays.number(log, 0, 1))
+    waiting = [row for row in storing(judge) if judge.rows[row].address == address]
+    if not waiting:
+        return judge.next_text
+    return replays.listed(replays.word(judge.rows[waiting[-1]].before, f"{address:o}"), 0)
+
+
 def changes(values, before):
     """The values that differ from those before, each with its number."""
     return {name: [digits, number_of(digits)] for name, digits in values.items() if before.get(name) != digits}

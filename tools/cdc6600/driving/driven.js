@@ -1,7 +1,7 @@
 // A machine that is driven: the events made so far, each with what the panel shows after it.
 
-const CODES = /^E(\d+) /;
 const NOTHING = "E15 nothing";
+const UNITS = Object.keys(GIVEN.names);
 const MOST_EVENTS = 1000;
 
 /** The number that octal digits stand for in ones' complement. */
@@ -10,8 +10,6 @@ function numberOf(digits) {
   const value = BigInt(`0o${digits}`);
   return value > whole / 2n ? `-${whole - value}` : String(value);
 }
-
-const isRefusal = (answer) => CODES.test(answer);
 
 /** The addresses of the first words that a deck shows. */
 function shownBy(deck) {
@@ -34,12 +32,11 @@ class Driven {
     this.shown = shownBy(deck);
     this.package = plain(/^start ([0-7]+)$/m.exec(deck)?.[1] ?? "0");
     this.replays = new Replays(library, deck);
-    this.following = new Following();
-    this.words = new Words(this.replays, this.following);
+    this.asking = new Asking(library, this.machine);
+    this.words = new Words(this.replays, this.asking);
     this.start = this.valuesNow();
-    this.boot = this.words.panel("none");
+    this.boot = { state: this.asking.state, count: this.asking.rows.length, ...this.words.panel("none") };
     this.steps = [];
-    this.answers = new Map();
   }
 
   get last() { return this.steps.at(-1) ?? { ...this.boot, event: "", holds: [], values: this.start, log: "none" }; }
@@ -48,10 +45,10 @@ class Driven {
 
   /** The registers and the shown words by their names, in octal digits. */
   valuesNow() {
-    const it = this.machine.registers();
+    const { now } = this.asking.state;
     const found = {};
     for (const kind of ["x", "a", "b"]) {
-      it[kind].forEach((value, n) => { found[`${kind.toUpperCase()}${n}`] = octal(value, kind === "x" ? 20 : 6); });
+      now[kind].forEach((value, n) => { found[`${kind.toUpperCase()}${n}`] = octal(value, kind === "x" ? 20 : 6); });
     }
     this.shown.forEach((at) => { found[octal(at, 6)] = octal(this.machine.words(at, 1)[0] ?? 0n, 20); });
     return found;
@@ -66,25 +63,15 @@ class Driven {
     return word === undefined ? null : octal(word, 20);
   }
 
-  /** What the machine would answer to an event now. Its memory is put back as it was. */
-  answerTo(event) {
-    if (!this.answers.has(event)) {
-      this.answers.set(event, this.library.trying(() => this.machine.event(event).printed.trimEnd()));
-    }
-    return this.answers.get(event);
-  }
-
   /** The refusals of what is to be done next in this state, each with its reservation; an issue has none yet. */
   refusals() {
-    const parts = [[0, "issue"], ...this.following.pending.map((row) => [row, this.following.next(row)])];
-    const answered = parts.map(([row, event]) => ({ row, event, answer: this.answerTo(event) }));
-    return answered.filter((it) => isRefusal(it.answer))
-      .map((it) => ({ ...it, by: this.words.why(it.event, it.answer, this.log).rows }));
+    const parts = [[0, "issue"], ...this.asking.pending.map((row) => [row, this.asking.next(row)])];
+    return parts.map(([row, event]) => ({ row, ...this.asking.judge(event) })).filter((it) => isRefusal(it.answer));
   }
 
   /** Makes an event; what is shown of it, or what is wrong with its line. */
   make(event) {
-    const before = { state: this.following.state, log: this.log };
+    const before = { state: this.asking.state, log: this.log, ...this.asking.before(event) };
     const tried = this.refusals();
     const ran = attempt(() => this.machine.event(event));
     if (ran.status !== 0) {
@@ -92,71 +79,70 @@ class Driven {
     }
     const answer = ran.printed.trimEnd();
     const refused = isRefusal(answer);
-    const log = this.machine.log().printed.trim() || "none";
-    const { rows = [], ...found } = refused ? this.refused(event, answer, log) : this.made(event, answer, before, log);
-    this.answers = new Map();
+    const log = this.machine.log().printed.trimEnd();
+    const found = refused ? this.refused(event, before) : this.made(event, answer, before, log);
     const values = this.valuesNow();
     const changed = Object.keys(values).filter((name) => values[name] !== this.last.values[name]);
-    const step = { event, answer, refused, ...found, holds: rows.map(String), values, changed, log, tried,
-      state: this.following.state, count: this.following.rows.length, ...this.words.panel(log) };
+    const step = { event, answer, refused, ...found, values, changed, log, tried, state: this.asking.state,
+      count: this.asking.rows.length, ...this.words.panel(log) };
     this.steps.push(step);
     return step;
   }
 
-  refused(event, answer, log) {
-    const mark = { row: this.following.about(event), mark: answer.split(" ")[0] };
-    return { mark, ...this.words.why(event, answer, log) };
+  refused(event, { row }) {
+    const judged = this.asking.judge(event);
+    return { mark: { row, mark: judged.answer.split(" ")[0] }, words: this.words.why(judged),
+      holds: judged.rows.map(String) };
   }
 
   made(event, answer, before, log) {
-    const text = event === "issue" ? this.replays.instruction(before.log) ?? "" : "";
-    const then = { text, before: before.log, after: log, halt: this.replays.halt(log), now: this.machine.registers(),
-      core: this.replays.core };
-    const mark = this.following.follow(event, answer, then);
-    return { mark, words: this.words.told(event, answer, before, { state: this.following.state, log }) };
+    const mark = this.asking.follow(event, answer, before, log);
+    return { mark, words: this.words.told(event, answer, mark, before.state, this.asking.state), holds: [] };
   }
 
   /** Takes the last events back, by a new boot and the events before them. */
   undo(count = 1) {
     const steps = this.steps.slice(0, Math.max(this.steps.length - count, 0));
     this.machine.boot(this.deck);
-    this.steps = [];
-    this.answers = new Map();
     steps.forEach((it) => this.machine.event(it.event));
-    this.following.rows.length = steps.at(-1)?.count ?? 1;
-    this.following.state = steps.at(-1)?.state ?? new Following().state;
     this.steps = steps;
+    const now = steps.at(-1) ?? this.boot;
+    this.asking.rows.length = now.count;
+    this.asking.set(now.state);
   }
 
-  /** Each event that the machine would make or refuse for more than that there is nothing to do, with its answer. */
+  /** Each event that the machine would make or refuse for more than that there is nothing to do, with its answer and
+   * the reservations that hold it back. */
   offers() {
-    const numbers = (kind, first, last) => Array.from({ length: last - first + 1 }, (_, n) => `${kind} ${first + n}`);
     const units = UNITS.flatMap((unit) => ["read", "finish", "store"].map((kind) => `${kind} ${unit}`));
+    const numbered = Object.entries(GIVEN.numbers).flatMap(([kind, all]) => all.map((number) => `${kind} ${number}`));
     const ask = [`ask ${this.package}`];
-    const isHalted = this.following.state.halt !== RUNNING;
-    const all = ["exchange", ...(isHalted ? ask : []), "issue", ...units, ...numbers("accept", 0, 3),
-      ...numbers("return", 1, 5), ...numbers("bank", 0, BANKS - 1), ...(isHalted ? [] : ask)];
-    return all.map((event) => ({ event, answer: this.answerTo(event) })).filter((it) => it.answer !== NOTHING);
+    const isHalted = this.asking.state.halt !== RUNNING;
+    const all = ["exchange", ...(isHalted ? ask : []), "issue", ...units, ...numbered, ...(isHalted ? [] : ask)];
+    return all.map((event) => this.asking.judge(event)).filter((it) => it.answer !== NOTHING);
   }
 
   /** What an event is about. */
   about(event) {
     const [kind] = event.split(" ");
-    const row = this.following.about(event);
-    const it = this.following.rows[row];
-    const texts = { issue: () => this.words.next(this.log), exchange: () => `package at ${this.following.state.asked}`,
+    const row = this.asking.about(event);
+    const texts = { issue: () => this.words.next(), exchange: () => `package at ${this.asking.state.asked}`,
       ask: () => "the deck's package", bank: () => "busy" };
-    return row ? `${row} ${it.text}` : texts[kind]?.() ?? "";
+    return row ? `${row} ${this.asking.rows[row].text}` : texts[kind]?.() ?? "";
   }
 
   /** The event that a drain would make next; with nothing pending the exchange or else an issue, and at first the
    * request for the deck's package; none if that would be refused. */
   next() {
-    const [event, answer] = this.library.trying(() => this.machine.next().printed.split("\n"));
+    const { state } = this.asking;
+    if (this.tried?.state !== state) {
+      this.tried = { state, lines: this.library.trying(() => this.machine.next().printed.split("\n")) };
+    }
+    const [event, answer] = this.tried.lines;
     if (!isRefusal(answer)) {
       return event;
     }
-    return this.following.state.asked || this.log !== "none" ? "" : `ask ${this.package}`;
+    return state.asked || this.log !== "none" ? "" : `ask ${this.package}`;
   }
 
   /** Makes next events until a condition holds or none is left; whether the condition holds. */
@@ -183,8 +169,8 @@ class Driven {
    * of its next event. */
   reservations() {
     const columns = ["issue", "read", "finish", "store", "accept", "return"];
-    const moments = this.following.rows.map(() => ({}));
-    const holds = this.following.rows.map(() => null);
+    const moments = this.asking.rows.map(() => ({}));
+    const holds = this.asking.rows.map(() => null);
     let issuing = null;
     this.steps.forEach((step, n) => {
       const [kind] = step.event.split(" ");
@@ -200,7 +186,7 @@ class Driven {
       }
     });
     this.refusals().filter((it) => it.row).forEach((it) => { holds[it.row] = it; });
-    return this.following.rows.slice(1).map((it) => [String(it.number), it.text, it.unit,
+    return this.asking.rows.slice(1).map((it) => [String(it.number), it.text, it.unit,
       ...columns.map((kind) => String(moments[it.number][kind] ?? "")), heldBy(holds[it.number])]);
   }
 }
@@ -210,7 +196,7 @@ function heldBy(hold) {
   if (!hold) {
     return "";
   }
-  const numbers = hold.by.map(String);
+  const numbers = hold.rows.map(String);
   const by = filled("[ ({numbers:reservation|reservations} {numbers})]", { numbers });
   return `${hold.event.split(" ")[0]}: ${hold.answer}${by}`;
 }

@@ -1,7 +1,7 @@
 """Writes the page that drives a machine in a browser: one file with the module, the examples and the sentences in it.
 
 The page has the panel of the pages of sessions (tools/cdc6600/drawing): its frame, its look and its sentences. Its own
-parts are in this folder. following.js follows what the library doesn't tell yet.
+parts are in this folder. What it shows of the machine is what the library tells.
 """
 
 import base64
@@ -16,9 +16,10 @@ from cdc6600 import limits
 from cdc6600.assembling.language import LANGUAGE
 from cdc6600.assembling.texts import FORMS
 from cdc6600.drawing import page as drawing
-from cdc6600.drawing.following import WORDS
-from cdc6600.drawing.instructions import KINDS, NAMES
+from cdc6600.drawing.following import PLACES, WORDS
+from cdc6600.drawing.instructions import NAMES
 from cdc6600.drawing.sentences import SENTENCES
+from cdc6600.drawing.states import CHANNELS
 from cdc6600.drawing.values import REGISTERS
 from cdc6600.shared.decks import FOLDER as DECKS
 from cdc6600.shared.decks import cells_of, decks, sessions, shown_by_sessions
@@ -28,7 +29,7 @@ from cdc6600.timing.reservations import HEADS
 
 NAME = "cdc6600.html"
 FOLDER, WRAPPER = Path(__file__).resolve().parent, ROOT / "crates/embedding/javascript/cdc6600.mjs"
-SCRIPTS = ("sentences", "replays", "following", "words", "driven", "timeline", "assembler", "page")
+SCRIPTS = ("sentences", "asking", "replays", "words", "driven", "timeline", "assembler", "page")
 EXPORTED = re.compile(r"^export (\{.*\};)?", re.MULTILINE)
 # The example that is chosen first.
 FIRST = "two-adds-code"
@@ -74,9 +75,8 @@ def example(file, about):
 
 
 def instructions():
-    """The rows of the instruction table as the scripts use them."""
-    return [{"code": row.code, "text": row.text, "pattern": pattern(row.pattern), "long": row.is_long,
-             "operands": row.operands} for row in ROWS.values()]
+    """The rows of the instruction table as the assembler in the page uses them."""
+    return [{"code": row.code, "text": row.text, "long": row.is_long} for row in ROWS.values()]
 
 
 def forms():
@@ -93,9 +93,11 @@ def pattern(compiled):
 def given():
     """What the scripts read."""
     sizes = {"least": limits.LEAST_WORDS, "words": limits.MOST_WORDS, "package": limits.PACKAGE_WORDS,
-             "shows": limits.MOST_SHOWS, "banks": limits.BANKS, "shown": WORDS}
-    return {"sentences": SENTENCES, "names": NAMES, "kinds": KINDS, "instructions": instructions(), "forms": forms(),
-            "language": LANGUAGE, "limits": sizes, "examples": examples()}
+             "shows": limits.MOST_SHOWS, "shown": WORDS}
+    numbers = {"accept": range(PLACES), "return": CHANNELS, "bank": range(limits.BANKS)}
+    return {"sentences": SENTENCES, "names": NAMES, "instructions": instructions(), "forms": forms(),
+            "language": LANGUAGE, "limits": sizes, "examples": examples(),
+            "numbers": {kind: list(numbers[kind]) for kind in numbers}}
 
 
 def script(module):

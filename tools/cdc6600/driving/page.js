@@ -6,6 +6,7 @@ const MOST_LINES = 3000;
 let library = null;
 let driven = null;
 let program = null;
+let timeline = null;
 
 function element(name, text, attributes = {}) {
   const made = document.createElement(name);
@@ -177,7 +178,7 @@ function showMachineNow() {
 }
 
 function button(event, note) {
-  const row = driven.following.about(event);
+  const row = driven.asking.about(event);
   const made = element("button", event, { type: "button", "data-event": event, "data-row": row });
   if (note) {
     made.append(element("small", note));
@@ -197,11 +198,11 @@ function showOffers() {
   const [refused, made] = [true, false].map((is) => offers.filter((it) => isRefusal(it.answer) === is));
   byId("may").replaceChildren(...made.map(({ event }) => button(event, driven.about(event))));
   byId("none").hidden = made.length > 0;
-  byId("waits").replaceChildren(...refused.map(({ event, answer }) => {
+  byId("waits").replaceChildren(...refused.map((it) => {
     const row = element("li", "");
     const why = element("span", "");
-    why.append(element("code", answer), ` ${driven.words.why(event, answer, driven.log).words}`);
-    const tried = button(event, "");
+    why.append(element("code", it.answer), ` ${driven.words.why(it)}`);
+    const tried = button(it.event, "");
     tried.classList.add("plain");
     row.append(tried, why);
     return row;
@@ -241,27 +242,24 @@ function prepareListing() {
   }));
 }
 
-/** Marks the instruction at a parcel in a cell of the listing. */
-function markInstruction(cell, parcel) {
-  let at = 0;
-  cell.replaceChildren(...cell.textContent.split("; ").flatMap((it, n) => {
-    const part = at === parcel ? element("mark", it) : it;
-    at += rowOf(it)?.long ? 2 : 1;
-    return n ? ["; ", part] : [part];
-  }));
+/** Marks the instruction at a parcel in a row of the listing. */
+function markInstruction({ cells: [, word, text] }, parcel) {
+  const parts = text.textContent.split("; ");
+  const here = parts.length - driven.replays.instructionsFrom(word.textContent, parcel);
+  text.replaceChildren(...parts.flatMap((it, n) => [...(n ? ["; "] : []), n === here ? element("mark", it) : it]));
 }
 
-/** Where the next instruction is: the number of its line or the address of its word, or none if that is open. */
+/** Where the next instruction is: the number of its line or the address of its word, or none if that is open. The
+ * listing has absolute addresses. */
 function nextAt() {
-  const { replays, log, following: { state } } = driven;
-  if (state.halt !== RUNNING || "branch" in state.units) {
+  const { now, parcel, isOpen } = driven.asking.state;
+  if (isOpen) {
     return null;
   }
-  const [address, reference] = [replays.number(log, 0, 1), replays.number(log, 2, 1)];
-  const parcel = Number(replays.field(log, 0, 3));
-  return program.source ? program.source.lineAt(reference, address, parcel) : octal(reference + address, 6);
+  return program.source ? program.source.lineAt(now.ra, now.p, Number(parcel)) : octal(now.ra + now.p, 6);
 }
 
+/** Marks the next instruction in the listing; its row, or none. */
 function showListing() {
   const last = byId("listing").querySelector(".here");
   if (last) {
@@ -276,39 +274,66 @@ function showListing() {
     here.classList.add("here");
     here.setAttribute("aria-current", "true");
     if (!program.source) {
-      markInstruction(here.cells[2], Number(driven.replays.field(driven.log, 0, 3)));
+      markInstruction(here, Number(driven.asking.state.parcel));
     }
-    byId("lines").scrollTop = here.offsetTop - byId("lines").clientHeight / 2;
+  }
+  return here;
+}
+
+/** Makes the rows of a table those of these keys. A row that is there stays, because a browser takes long to lay out a
+ * whole table again. */
+function setRows(body, wanted) {
+  const there = new Map([...body.rows].map((row) => [row.key, row]));
+  const keys = new Set(wanted.map(([key]) => key));
+  there.forEach((row, key) => keys.has(key) || row.remove());
+  let at = body.firstElementChild;
+  for (const [key, make] of wanted) {
+    const row = there.get(key) ?? Object.assign(make(), { key });
+    if (row === at) {
+      at = at.nextElementSibling;
+    } else {
+      body.insertBefore(row, at);
+    }
   }
 }
 
+function reservationRow([number, text, unit, ...others]) {
+  const row = element("tr", "");
+  row.append(element("th", number, { scope: "row" }));
+  cells(row, [text, GIVEN.names[unit], ...others]);
+  return row;
+}
+
+function eventRow(it, number) {
+  const row = element("tr", "");
+  row.append(element("th", number, { scope: "row" }));
+  [it.event, it.answer].forEach((text) => row.appendChild(element("td", "")).append(element("code", text)));
+  cells(row, [it.refused ? said("refused", { why: it.words }) : it.words]);
+  row.classList.toggle("refused", it.refused);
+  return row;
+}
+
 function showTables() {
-  byId("reservations").replaceChildren(...driven.reservations().slice(-MOST_ROWS).map(([number, text, unit, ...others]) => {
-    const row = element("tr", "");
-    row.append(element("th", number, { scope: "row" }));
-    cells(row, [text, GIVEN.names[unit], ...others]);
-    return row;
-  }));
+  const reservations = driven.reservations().slice(-MOST_ROWS);
+  setRows(byId("reservations"), reservations.map((it) => [it.join("|"), () => reservationRow(it)]));
   const first = Math.max(driven.steps.length - MOST_ROWS, 0);
-  byId("events").replaceChildren(...driven.steps.slice(first).map((it, n) => {
-    const row = element("tr", "");
-    row.append(element("th", first + n + 1, { scope: "row" }));
-    [it.event, it.answer].forEach((text) => row.appendChild(element("td", "")).append(element("code", text)));
-    cells(row, [it.refused ? said("refused", { why: it.words }) : it.words]);
-    row.classList.toggle("refused", it.refused);
-    return row;
-  }).reverse());
+  const steps = driven.steps.slice(first).map((it, n) => [it, () => eventRow(it, first + n + 1)]);
+  setRows(byId("events"), steps.reverse());
 }
 
 function show() {
   showStep();
   showMachineNow();
   showOffers();
-  drawTimeline(driven, byId("picture"), byId("labels"));
-  byId("scroll").scrollLeft = byId("scroll").scrollWidth;
-  showListing();
+  timeline.draw(driven);
+  const here = showListing();
   showTables();
   byId("wrong").textContent = "";
+  // What asks for sizes comes last, so that the browser lays the page out once.
+  byId("scroll").scrollLeft = byId("scroll").scrollWidth;
+  if (here) {
+    byId("lines").scrollTop = here.offsetTop - byId("lines").clientHeight / 2;
+  }
 }
 
 // ---- what is made ----
@@ -347,12 +372,13 @@ function goOn() {
     byId("wrong").textContent = "Say where: the address of a word in the program, or a label.";
     return;
   }
-  const isAt = (made) => made > 0 && driven.following.state.halt === RUNNING
-    && driven.replays.number(driven.log, 0, 1) === address && driven.replays.field(driven.log, 0, 3) === "0"
-    && !("branch" in driven.following.state.units);
+  const isAt = (made) => {
+    const { now, parcel, isOpen } = driven.asking.state;
+    return made > 0 && !isOpen && now.p === address && parcel === "0";
+  };
   const [isEnd, next] = {
     at: [isAt], changes: [() => driven.valueOf(what, number) !== before],
-    refused: [() => isRefusal(driven.answerTo("issue")), () => "issue"],
+    refused: [() => isRefusal(driven.asking.judge("issue").answer), () => "issue"],
   }[kind];
   const came = driven.until(isEnd, next);
   show();
@@ -471,6 +497,7 @@ async function begin() {
   }
   library = await Library.of(bytes);
   byId("unproved").hidden = library.isProved !== false;
+  timeline = new Timeline(byId("picture"), byId("labels"));
   addExamples();
   listen();
   byId("app").hidden = false;

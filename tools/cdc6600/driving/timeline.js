@@ -1,76 +1,130 @@
-// The timeline: a row for the machine and one for each reservation, and a column for each event.
+// The timeline: a row for the machine and one for each reservation, and a column for each event. An event adds its
+// column to what is drawn, because a browser takes long to draw a whole timeline again.
 
 const LINE = 22;
 const COLUMN = 40;
 const MARGIN = 10;
-const MOST_COLUMNS = 300;
+// Columns are taken away by so many at once, and there is room for three times as many: a browser lays out all texts
+// again if they move, or if the size of the picture changes. So its frame has the size of what is drawn.
+const COLUMNS_TAKEN = 100;
+const SIZE = { width: COLUMN * (3 * COLUMNS_TAKEN + 20), height: LINE * (3 * COLUMNS_TAKEN + 20) };
 const SVG = "http://www.w3.org/2000/svg";
+const MACHINE = "machine";
 
-/** How a row is drawn in a state: in its unit, in the hopper, in its channel, or not at all. */
-function barOf(state, row) {
-  if (row === 0) {
-    return state.asked ? "reserved" : "";
+const middle = (n) => COLUMN * n + COLUMN / 2;
+const heightOf = (row) => LINE * (row + 2) - 6;
+
+/** How the rows are drawn in a state: in the unit, in the hopper or in the channel. A load in the hopper has a channel
+ * too. */
+function barsIn({ asked, units, places, channels }) {
+  const bars = new Map(asked ? [[0, "reserved"]] : []);
+  for (const [part, kind] of [[channels, "channel"], [places, "hopper"], [units, "reserved"]]) {
+    Object.values(part).forEach((row) => bars.set(row, kind));
   }
-  const has = (part) => Object.values(part).includes(row);
-  return has(state.units) ? "reserved" : has(state.places) ? "hopper" : has(state.channels) ? "channel" : "";
-}
-
-function draw(svg, name, attributes, text = "") {
-  const made = document.createElementNS(SVG, name);
-  Object.entries(attributes).forEach(([key, value]) => made.setAttribute(key, value));
-  made.textContent = text;
-  svg.append(made);
-}
-
-/** The bars of a row: where each begins and ends, as numbers of columns, and how it is drawn. */
-function barsOf(steps, row) {
-  const bars = [];
-  steps.forEach((step, n) => {
-    const kind = n + 1 < steps.length ? barOf(step.state, row) : "";
-    const last = bars.at(-1);
-    if (kind && last?.kind === kind && last.end === n) {
-      last.end = n + 1;
-    } else if (kind) {
-      bars.push({ kind, begin: n, end: n + 1 });
-    }
-  });
   return bars;
 }
 
-function drawRow(svg, steps, row, y, left) {
-  const middle = (n) => left + COLUMN * n + COLUMN / 2;
-  for (const { kind, begin, end } of barsOf(steps, row)) {
-    draw(svg, "rect", { x: middle(begin), y: y - 11, width: COLUMN * (end - begin), height: 14, class: kind });
-  }
-  steps.forEach((step, n) => {
-    if (step.mark.row === row) {
-      draw(svg, "text", { x: middle(n), y, "text-anchor": "middle", class: step.refused ? "bad" : "" }, step.mark.mark);
-    }
-  });
+function drawn(name, attributes, text = "") {
+  const element = document.createElementNS(SVG, name);
+  Object.entries(attributes).forEach(([key, value]) => element.setAttribute(key, value));
+  element.textContent = text;
+  return element;
 }
 
-/** Draws the last events of a driven machine, with the reservations that were pending then. */
-function drawTimeline(driven, svg, labels) {
-  const first = Math.max(driven.steps.length - MOST_COLUMNS, 0);
-  const steps = driven.steps.slice(first);
-  const isShown = (row) => first === 0 || steps.some((it) => it.mark.row === row || barOf(it.state, row));
-  const rows = driven.following.rows.map((it, row) => [row, it ? `${String(row).padStart(2)} ${it.text}` : "machine"])
-    .filter(([row]) => row === 0 || isShown(row));
-  const left = MARGIN + 8 * Math.max(...rows.map(([, label]) => label.length));
-  const height = LINE * (rows.length + 1) + MARGIN;
-  [svg, labels].forEach((it) => it.replaceChildren());
-  for (const [it, width] of [[svg, left + COLUMN * steps.length + MARGIN], [labels, left]]) {
-    it.setAttribute("width", width);
-    it.setAttribute("height", height);
+/** Sets attributes that are otherwise now. */
+function change(element, attributes) {
+  Object.entries(attributes).filter(([key, value]) => element.getAttribute(key) !== String(value))
+    .forEach(([key, value]) => element.setAttribute(key, value));
+}
+
+/** Those of some items that stay in sight. The elements of the others are removed. */
+function kept(items, stays) {
+  items.filter((it) => !stays(it)).forEach((it) => it.element.remove());
+  return items.filter(stays);
+}
+
+class Timeline {
+  constructor(picture, labels) {
+    Object.assign(this, { picture, labels, frame: picture.parentElement });
+    change(picture, SIZE);
+    this.begin(null);
   }
-  draw(labels, "rect", { width: "100%", height: "100%", class: "paper" });
-  steps.forEach((_, n) => {
-    const x = left + COLUMN * n + COLUMN / 2;
-    draw(svg, "text", { x, y: 16, "text-anchor": "middle", class: "quiet" }, first + n + 1);
-  });
-  rows.forEach(([row, label], n) => {
-    const y = LINE * (n + 2) - 6;
-    draw(labels, "text", { x: 4, y, "xml:space": "preserve" }, label);
-    drawRow(svg, steps, row, y, left);
-  });
+
+  /** Clears what is drawn. The rows of reservations have a group of their own, because that of the machine stays on top
+   * if they move. */
+  begin(driven) {
+    Object.assign(this, { driven, count: 0, last: null, items: [], bars: new Map(), names: [], first: 0, top: 1 });
+    [this.machine, this.reservations, this.named] = ["", "", ""].map(() => drawn("g", {}));
+    this.picture.replaceChildren(this.machine, this.reservations);
+    const paper = drawn("rect", { width: "100%", height: "100%", class: "paper" });
+    this.labels.replaceChildren(paper, drawn("text", { x: 4, y: heightOf(0) }, MACHINE), this.named);
+  }
+
+  /** Draws the last events of a driven machine, with the reservations that were pending then. */
+  draw(driven) {
+    const { steps } = driven;
+    if (this.driven !== driven || (steps[this.count - 1] ?? null) !== this.last) {
+      this.begin(driven);
+    }
+    const first = Math.max(Math.floor(steps.length / COLUMNS_TAKEN) - 2, 0) * COLUMNS_TAKEN;
+    for (let n = Math.max(this.count, first); n < steps.length; n++) {
+      this.add(steps, n);
+    }
+    Object.assign(this, { count: steps.length, last: steps.at(-1) ?? null });
+    if (first > this.first) {
+      this.items = kept(this.items, (it) => it.end >= first);
+      const top = Math.min(...this.items.map((it) => it.row || driven.asking.rows.length));
+      Object.assign(this, { first, top });
+    }
+    this.show(driven.asking.rows);
+  }
+
+  /** Draws the column of an event, with the bars that lead there from the event before it. */
+  add(steps, n) {
+    const { mark, refused } = steps[n];
+    this.text(0, n, 16, "quiet", n + 1);
+    this.text(mark.row, n, heightOf(mark.row), refused ? "bad" : "", mark.mark);
+    for (const [row, kind] of n ? barsIn(steps[n - 1].state) : []) {
+      const bar = this.bars.get(row);
+      if (bar?.kind === kind && bar.end === n - 1) {
+        bar.end = n;
+        bar.element.setAttribute("width", COLUMN * (n - bar.begin));
+      } else {
+        const place = { x: middle(n - 1), y: heightOf(row) - 11, width: COLUMN, height: 14 };
+        const item = { row, kind, begin: n - 1, end: n, element: drawn("rect", { ...place, class: kind }) };
+        this.bars.set(row, item);
+        this.put(item, "prepend");
+      }
+    }
+  }
+
+  text(row, n, y, name, text) {
+    const element = drawn("text", { x: middle(n), y, "text-anchor": "middle", class: name }, text);
+    this.put({ row, end: n, element }, "append");
+  }
+
+  put(item, where) {
+    this.items.push(item);
+    (item.row ? this.reservations : this.machine)[where](item.element);
+  }
+
+  /** Adds the labels of new rows, and brings the rows in sight that have something in these columns. */
+  show(rows) {
+    const { first, top } = this;
+    for (let row = Math.max((this.names.at(-1)?.row ?? 0) + 1, top); row < rows.length; row++) {
+      const label = `${String(row).padStart(2)} ${rows[row].text}`;
+      const element = drawn("text", { x: 4, y: heightOf(row), "xml:space": "preserve" }, label);
+      this.names.push({ row, element, size: label.length });
+      this.named.append(element);
+    }
+    this.names = kept(this.names, (it) => it.row >= top);
+    const [left, up] = [MARGIN + 8 * Math.max(MACHINE.length, ...this.names.map((it) => it.size)), LINE * (1 - top)];
+    const across = left - COLUMN * first;
+    const height = LINE * (rows.length - top + 2) + MARGIN;
+    change(this.machine, { transform: `translate(${across} 0)` });
+    change(this.reservations, { transform: `translate(${across} ${up})` });
+    change(this.named, { transform: `translate(0 ${up})` });
+    Object.assign(this.frame.style, { width: `${across + COLUMN * this.count + MARGIN}px`, height: `${height}px` });
+    change(this.labels, { width: left, height });
+  }
 }
