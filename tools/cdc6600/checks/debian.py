@@ -15,7 +15,7 @@ NEEDED = {
 PACKAGES = {
     "cc": ("gcc", "libc6-dev"), "chromedriver": ("chromium-driver",), "chromium": ("chromium",),
     "flake8": ("python3-flake8",), "man": ("man-db",), "node": ("nodejs",), "pkg-config": ("pkg-config",),
-    "rustc": ("rustc",),
+    "rustc": ("rustc",), "wasm-opt": ("binaryen",),
 }
 # How many seconds an installation waits for another one, and how many minutes it may take.
 PATIENCE, MINUTES = 600, 30
@@ -42,9 +42,12 @@ def missing(check):
 
 
 def provide(check):
-    """Installs what the check of this name needs, where something is missing and this user may. Else it ends this
-    process with a line that says what is missing."""
-    wanted = missing(check)
+    """Installs what the check of this name needs, where something is missing."""
+    install(missing(check))
+
+
+def install(wanted):
+    """Installs programs, where this user may. Else it ends this process with a line that says what is missing."""
     if not wanted:
         return
     packages = [package for program in wanted for package in PACKAGES[program]]

@@ -16,23 +16,23 @@ and so are the modules. If no source is newer, nothing is proved or made. tools/
 module is made, and what isn't proved of that.
 
 With --unproved nothing is proved, which is told, and `isProved` of cdc6600.mjs is false.
+
+docs/try has the page, the module with 32-bit addresses and its calls. `tools/check built-files --write` makes them by
+this tool and writes them there.
 """
 
 import argparse
-import shutil
 import tempfile
 from pathlib import Path
 
 from cdc6600.building.building import ended, tell
 from cdc6600.crates.kit import checker
 from cdc6600.crates.table import Table
-from cdc6600.driving.driving import NAME, page
 from cdc6600.module import unproved
+from cdc6600.module.files import files
 from cdc6600.module.kept import NARROW, WIDE, kept
 from cdc6600.module.module import LOWERING, Making, marked
 from cdc6600.shared.program import ROOT
-
-CALLS = ROOT / "crates/embedding/javascript"
 
 
 def unproved_modules():
@@ -54,15 +54,12 @@ def work():
     given = parser.parse_args()
     folder, modules = given.folder, unproved_modules() if given.unproved else kept()
     folder.mkdir(parents=True, exist_ok=True)
-    for name, module in modules.items():
-        if module is None:
+    for name, content in files(modules).items():
+        if content is None:
             tell(f"{name} isn't made: {LOWERING} is missing (apt-get install binaryen)")
             (folder / name).unlink(missing_ok=True)
         else:
-            (folder / name).write_bytes(module)
-    for file in sorted(CALLS.iterdir()):
-        shutil.copy(file, folder)
-    (folder / NAME).write_text(page(modules[NARROW] or modules[WIDE]), encoding="utf-8")
+            (folder / name).write_bytes(content)
     return 0
 
 

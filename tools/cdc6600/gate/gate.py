@@ -26,8 +26,8 @@ The parts, in their order:
   forgotten tokens are refused, and that `./cdc6600` builds no program of which a crate isn't proved.
 
 docs/work/checks.md says what each check looks at; their names are in parts.py. A check that needs a program which isn't
-installed is left out, and that is told. A check that finds nothing says nothing. Where `rt ci` fails nothing more is
-tried.
+installed is left out, and that is told, also where a part of it is left out. Otherwise a check that finds nothing says
+nothing. Where `rt ci` fails nothing more is tried.
 """
 
 import os
@@ -54,6 +54,8 @@ PROGRAM = "crates/operator_main/out/operator_main"
 PROOFS = re.compile(r"(\d+) passed, (\d+) failed")
 TRIED = re.compile(r"(\d+) wrong bodies, (\d+) not refused, (\d+) can't tell")
 PIPED = {"stdout": subprocess.PIPE, "stderr": subprocess.STDOUT, "text": True, "errors": "replace"}
+# How a check says that it didn't try something.
+LEFT_OUT = " left out: "
 # A check takes up to 4.3 GB.
 MEMORY_OF_A_CHECK = 5_000_000
 
@@ -65,9 +67,9 @@ def processor_seconds():
 
 
 def is_silent(name):
-    """Whether a check finds nothing: it ends with 0. What it says is printed where it doesn't."""
+    """Whether a check finds nothing: it ends with 0. What it says is printed where it doesn't, or leaves a part out."""
     ran = subprocess.run(command(name), **PIPED, check=False)
-    if ran.returncode:
+    if ran.returncode or LEFT_OUT in ran.stdout:
         print(f"{called(name)}:\n{ran.stdout}", end="", flush=True)
     return ran.returncode == 0
 

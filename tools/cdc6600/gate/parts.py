@@ -10,8 +10,8 @@ BUILDING = ("spent-tokens", "build-program-test")
 DECKS = (
     "decks", "pages", "assembler", "image", "schedules", "both-kinds", "busy", "threads", "sequential", "large",
     "mutations", "failures", "allocations", "emulators", "trace", "random-sessions", "values", "operate", "scheduling",
-    "exploring", "cycles", "browser", "driving", "progress", "habits", "many-jobs", "tool-failures", "embedding",
-    "module",
+    "exploring", "cycles", "browser", "driving", "progress", "habits", "launcher", "archive", "many-jobs",
+    "tool-failures", "embedding", "module", "built-files",
 )
 NAMES = (*SMALL, BODIES, *DECKS, *BUILDING)
 # Those whose modules are in the folder of the gate.
