@@ -19,6 +19,11 @@ the library, which takes some ten minutes. Each file is written beside its place
 of one. What an earlier call has installed and this one doesn't is removed. With --uninstall all that the list names is
 removed, with the folders that were made for it and are empty then.
 
+With --tar all of this except the library and the completions goes into an archive, packed by gzip, for people without
+the toolchain. It has one folder cdc6600, which works wherever it is unpacked; START.txt there says how to begin. The
+program needs Linux on x86-64 with glibc 2.34 or later, the tools need Python 3.10 or later too, and the page in a
+browser needs neither. The same files give the same bytes. FILE is written over only if it is such an archive.
+
 Three variables of the environment are read: CDC6600 may name the executable to install, CDC6600_LIBRARY the folder with
 the library, and what DESTDIR has stands before PREFIX wherever something is written or removed.
 """
@@ -30,12 +35,17 @@ import subprocess
 import sys
 from pathlib import Path
 
+from cdc6600.installing.archive import archive, is_archive
 from cdc6600.installing.completions import FILES, SHELLS
 from cdc6600.installing.installation import Fault, Installation, Piece
 from cdc6600.shared.ending import printable
-from cdc6600.shared.program import ROOT, Program
+from cdc6600.shared.program import BUILT, ROOT, Program, named_program
+from cdc6600.shared.writing import why_not_written
 
 PROGRAM, DOCUMENTS = "bin/cdc6600", "share/doc/cdc6600"
+LIST = f"{DOCUMENTS}/installed"
+# The page that drives a machine in a browser, from the repository's folder on.
+TRIED = "docs/try/cdc6600.html"
 EMBEDDING = ROOT / "crates/embedding"
 
 # What the tools read, by its names from the repository's folder on.
@@ -54,6 +64,7 @@ PAGES = (
     "decks/source/*.*",
     "docs/*.md",
     "docs/*/*.md",
+    "docs/try/*.*",
     "docs/use/*.svg",
     "docs/use/*.png",
     "docs/use/cdc6600.1",
@@ -70,8 +81,9 @@ PACKAGES = (
     ".", "assembling", "comparing", "drawing", "installing", "many_jobs", "operating", "random_decks", "shared",
     "timing",
 )
-# What isn't installed with `--without` and its name.
+# What isn't installed with `--without` and its name, and what an archive never has: files for fixed folders.
 PARTS = ("completions", "library", "pages", "program", "tools")
+NOT_PACKED = ("completions", "library")
 
 # How a tool is run from PREFIX/bin, wherever PREFIX is moved to.
 LAUNCHER = """#!/bin/sh
@@ -89,13 +101,23 @@ def arguments():
     parser.add_argument("--without", metavar="PART", action="append", choices=PARTS, default=[],
                         help="leave out the library, the tools, the pages, the completions, or the program with its "
                         "manual page; may be given several times")
-    parser.add_argument("prefix", metavar="PREFIX", help="the folder for all of it, as /usr/local")
-    return parser.parse_args()
+    parser.add_argument("--tar", metavar="FILE", help="write an archive instead")
+    parser.add_argument("prefix", metavar="PREFIX", nargs="?", help="the folder for all of it, as /usr/local")
+    given = parser.parse_args()
+    if given.tar is None and given.prefix is None:
+        parser.error("PREFIX or --tar FILE is missing")
+    if given.tar is not None and (given.prefix is not None or given.uninstall or given.without):
+        parser.error("--tar takes no PREFIX, no --uninstall and no --without")
+    return given
 
 
 def executable():
-    """The bytes of the executable that CDC6600 names, or of the one that tools/build-program builds."""
-    program = Program()
+    """The bytes of the executable that CDC6600 names, or of the one that tools/build-program builds. One without its
+    proof is installed only if it is named."""
+    named = named_program()
+    if not named and subprocess.run([ROOT / "tools/build-program"], check=False).returncode:
+        raise Fault("the program could not be built")
+    program = Program(named or str(BUILT))
     if not program.run(["--version"]).printed.startswith(b"cdc6600 "):
         raise Fault(f"{program.path}: it isn't the program cdc6600")
     return Path(program.path).read_bytes()
@@ -159,16 +181,40 @@ def pieces(prefix, without):
         yield from documents(*PAGES)
 
 
-def work():
-    given = arguments()
+def by_name(found):
+    """Pieces without those that come again."""
+    return list({piece.name: piece for piece in found}.values())
+
+
+def pack(name):
+    """Writes the archive, by another name at first."""
+    file = Path(name)
+    why_not = why_not_written(file, lambda it: is_archive(it, LIST)) if name else "FILE is empty"
+    if why_not:
+        raise Fault(f"{name}: {why_not}" if name else why_not)
+    if not (ROOT / TRIED).is_file():
+        raise Fault(f"{TRIED} is missing: tools/check built-files --write makes it")
+    Installation(file.parent, None).write(Piece(file.name, archive(by_name(pieces(None, NOT_PACKED)), LIST)))
+
+
+def install(given):
+    """Installs all below PREFIX, or removes it."""
     if not given.prefix:
         raise Fault("PREFIX is empty")
     prefix = Path(given.prefix).absolute()
-    installation = Installation(f"{os.environ.get('DESTDIR', '')}{prefix}", f"{DOCUMENTS}/installed")
+    installation = Installation(f"{os.environ.get('DESTDIR', '')}{prefix}", LIST)
     if given.uninstall:
         installation.remove()
     else:
-        installation.install(list({piece.name: piece for piece in pieces(prefix, given.without)}.values()))
+        installation.install(by_name(pieces(prefix, given.without)))
+
+
+def work():
+    given = arguments()
+    if given.tar is None:
+        install(given)
+    else:
+        pack(given.tar)
     return 0
 
 

@@ -64,13 +64,12 @@ class Installation:
 
     def made_folders(self, names, earlier):
         """The folders above these names that aren't there, and those of the list."""
-        above = {f"{folder}/" for name in names for folder in PurePath(name).parents if folder.name}
-        missing = {name for name in above if not (self.folder / name).is_dir()}
+        missing = {name for name in folders_above(names) if not (self.folder / name).is_dir()}
         return sorted({*missing, *folders_of(earlier)})
 
     def write_list(self, names):
         """Writes the list anew."""
-        self.write(Piece(self.list_name, "".join(f"{line}\n" for line in [HEAD, *names]).encode()))
+        self.write(list_of(self.list_name, names))
 
     def write(self, piece):
         """Writes a piece beside its place, and renames it then."""
@@ -88,6 +87,16 @@ class Installation:
         """Removes files, if they are there."""
         for name in names:
             (self.folder / name).unlink(missing_ok=True)
+
+
+def list_of(name, names):
+    """The list of these names, as a file of its own name."""
+    return Piece(name, "".join(f"{line}\n" for line in [HEAD, *names]).encode())
+
+
+def folders_above(names):
+    """The folders above these names."""
+    return {f"{folder}/" for name in names for folder in PurePath(name).parents if folder.name}
 
 
 def files_of(names):
