@@ -1,7 +1,7 @@
 """Tries the pages of tools/gallery in a browser, Chromium without a window.
 
     tools/check browser                      tries each page
-    tools/check browser --pictures FOLDER    takes pictures of some of them as well, as PNG files
+    tools/check browser --pictures FOLDER    takes pictures of some of them as well, as PNG files, and those of docs/use
 
 Each page is gone through by the keyboard, by its buttons, by its slider and with hidden answers, and what is shown at
 each step is compared: the event with the session's line, its answer with that of `cdc6600 events`, at the end the dump,
@@ -57,6 +57,13 @@ CONTROLS = {
 PICTURES = {
     "wide-light": (1280, 1060, "light", 1), "wide-dark": (1280, 1060, "dark", 1),
     "narrow-light": (390, 1180, "light", 2), "narrow-dark": (390, 1180, "dark", 2),
+}
+# The pictures that docs/use has: the page with a part of it, and the window of each. They are stored with fewer colors,
+# by `convert FILE -strip +dither -colors 128 -define png:compression-level=9 PNG8:FILE` of ImageMagick.
+OF_DOCS = {
+    "page": ("mid-word-exchange.html#event-19", (1280, 1150, "light", 1)),
+    "page-narrow": ("mid-word-exchange.html#event-19", (390, 1100, "dark", 1.25)),
+    "compared": ("compared.html#title-pictures", (1280, 780, "light", 1)),
 }
 
 
@@ -350,14 +357,18 @@ def faults_of_timed(browser, folder):
 
 
 def take_pictures(browser, folder, pictures):
-    """Takes pictures of the index, of some pages at a step, and of two schedules, in each window and scheme."""
+    """Takes pictures of the index, of some pages at a step, and of two schedules, in each window and scheme, and those
+    of docs/use."""
     pictures.mkdir(parents=True, exist_ok=True)
+    wanted = dict(OF_DOCS)
     for name, event in (("index", 1), ("conflicts", 7), ("sum-less-one", 24), ("full-hopper", 22), ("compared", 1)):
-        for kind, (width, height, scheme, scale) in PICTURES.items():
-            browser.show_as(width, height, scheme, scale=scale)
-            browser.open(f"{(folder / name).as_uri()}.html#event-{event}")
+        wanted |= {f"{name}-{kind}": (f"{name}.html#event-{event}", it) for kind, it in PICTURES.items()}
+    for picture, (page, (width, height, scheme, scale)) in wanted.items():
+        browser.show_as(width, height, scheme, scale=scale)
+        browser.open(f"{folder.as_uri()}/{page}")
+        if "#event-" in page:
             browser.run("window.scrollTo(0, 0);")
-            browser.picture(pictures / f"{name}-{kind}.png")
+        browser.picture(pictures / f"{picture}.png")
 
 
 def tries(program, browser, folder, pictures):
