@@ -1,4 +1,4 @@
--- No reference waits in a place that the hopper doesn't have.
+-- The hopper has four places: no reference waits in a place with another number.
 use Rattle.std.proofs.Common.{◌≡◌, ℕ, Bool, true, false, cond, Option, Some, None, refl}
 use Rattle.std.specs.Prelude.{slice_index_or}
 use Rattle.std.specs.List.{list_any}
@@ -15,7 +15,7 @@ use Rattle.program_order.specs.declared.event.Event.TheVariants.{Accept}
 use Rattle.program_order.specs.Events.{allowed, tests_of}
 use Rattle.program_order.specs.Processor.{Processor}
 
--- an acceptance for which there is nothing names no reference
+-- if accepting in a place is refused with `Nothing`, no reference waits there
 pub no_reference : (w : Processor) (place : ℕ) → allowed w (Accept place) ≡ Some Nothing
     → None ≡ located (seek (entry_at place) w.pending)
 unfolding allowed tests_of tests_found refusal_of accept_tests located

@@ -1,4 +1,4 @@
--- What reading a line does to the reading of a deck.
+-- The effect of reading a line on the reading of a deck.
 use Rattle.std.proofs.Common.{◌≡◌, ℕ, ◌+◌, ◌<◌, ◌≤◌, true, false, cond, ltb, List, [], ◌∷◌, length, Option, None}
 use Rattle.std.proofs.Common.{Some, Ok, Result, refl}
 use Rattle.std.proofs.Common.{sym, inl, inr, Err}
@@ -7,12 +7,12 @@ use Rattle.std.proofs.lemmas.Bool.{lt-ltb, le-ltb}
 use Rattle.std.proofs.Math.Seq.{drop-append_seam}
 use Rattle.device_text.specs.Device.{Moves}
 use Rattle.device_text.specs.Line.{IsText, LineTaken, left_after, lines_of}
-use Rattle.device_text.specs.declared.line.LineRead.TheVariants.{Whole, Long, Nothing}
+use Rattle.device_text.specs.declared.line.LineRead.TheVariants.{Whole, Long}
 use Rattle.device_text.proofs.Moving.{Moves-refl, Moves-weaker, Moves-trans}
-use Rattle.deck.specs.Deck.{Ends, Good, Bad, begun, deck, goes_on, read_from, read_on}
+use Rattle.deck.specs.Deck.{Ends, Good, Bad, deck, goes_on, read_from, read_on}
 use Rattle.deck.specs.Deck.{applied_first, applied_line}
 use Rattle.std.specs.Prelude.{MatchResult, IfOk, IfErr}
-use Rattle.deck.specs.Reading.{HasNoLine, Refuses, GivesNoDeck, is_cut, is_of_reading, is_read_failure}
+use Rattle.deck.specs.Reading.{HasNoLine, Refuses, GivesNoDeck}
 use Rattle.deck.specs.declared.deck.Draft.{Draft}
 use Rattle.deck.specs.declared.deck.Deck.{Deck}
 use Rattle.instructions.specs.declared.refusal.DeckFault.{DeckFault}
@@ -21,7 +21,7 @@ use Rattle.instructions.specs.declared.refusal.Refusal.{Refusal}
 use Rattle.instructions.specs.declared.refusal.Refusal.TheVariants as refusals
 use Rattle.device_text.proofs.Lines.{FirstHas, lines_whole, lines_first_long}
 
--- a fault to which a line's number was added
+-- a fault, after its line number was added
 pub numbered : {T : Type 0} (found : Result T DeckFault) (told : Result T Refusal) (n : ℕ) (refusal : Refusal)
     → MatchResult found (λ x. told ≡ Ok x) (λ fault. told ≡ Err (refusals.Deck n fault))
     → told ≡ Err refusal → (fault : DeckFault) × (found ≡ Err fault) × (refusal ≡ refusals.Deck n fault)
@@ -33,7 +33,7 @@ numbered (Err fault) told n refusal m h = (
       (subst (λ r. IfErr r (λ e. e ≡ refusals.Deck n fault)) (sym m) refl),
 )
 
--- and what was found without a fault
+-- a success, after the step that adds line numbers to faults
 pub unrefused : {T : Type 0} (found : Result T DeckFault) (told : Result T Refusal) (n : ℕ) (x : T)
     → MatchResult found (λ y. told ≡ Ok y) (λ fault. told ≡ Err (refusals.Deck n fault))
     → told ≡ Ok x → found ≡ Ok x
@@ -41,7 +41,7 @@ unrefused (Ok y) told n x m h = ap Ok (subst (λ r. IfOk r (λ z. y ≡ z)) h
     (subst (λ r. IfOk r (λ z. y ≡ z)) (sym m) refl))
 unrefused (Err fault) told n x m h = cc
 
--- the next line is taken
+-- the bytes that are left are the bytes after the next line
 abbrev pub Taken : List ℕ → List ℕ → List ℕ → Type 0
 Taken text xs ys = lines_of xs ≡ (text, ys) ∷ lines_of ys
 
@@ -55,7 +55,7 @@ refuses_long : (n : ℕ) (xs ys : List ℕ) (lines : List (List ℕ × List ℕ)
 refuses_long n xs ys [] h left = absurd h
 refuses_long n xs ys (line ∷ more) h left = inl (faults.Long, refl, (refl, omega arith, left))
 
--- of a long line 201 bytes were taken
+-- reading a line that is too long takes 201 bytes
 pub long_taken : (text xs ys : List ℕ) → length text ≡ 201 → xs ≡ text ++ ys → ys ≡ drop 201 xs
 long_taken text xs ys e q =
     sym (drop-append_seam text ys) ∙ ap (λ n. drop n (text ++ ys)) e ∙ ap (drop 201) (sym q)
@@ -67,21 +67,15 @@ taken_long a b n text h e m =
     (λ xs ys q.
     refuses_long n xs ys (lines_of xs) (lines_first_long text xs ys h e q) (long_taken text xs ys e q)) m
 
-pub taken_nothing : (a b : Option (List ℕ)) (n : ℕ) (text : List ℕ) → Moves a b (LineTaken Nothing text)
-    → Moves a b (λ xs ys. Refuses n (refusals.Deck n faults.NoEnd) xs ys (lines_of xs))
-taken_nothing a b n text m =
-    Moves-weaker a b (LineTaken Nothing text) (λ xs ys. Refuses n (refusals.Deck n faults.NoEnd) xs ys (lines_of xs))
-    (λ xs ys q. rw (q.0, q.1) (inl (faults.NoEnd, refl, (refl, refl)))) m
-
--- a line that isn't long leaves what comes after it
+-- reading a line that isn't too long leaves the bytes after it
 left_short : (text xs ys : List ℕ) → length text ≤ 200 → left_after xs (text, ys) ≡ ys
 left_short text xs ys h = let fits : ltb 200 (length text) ≡ false = le-ltb _ _ h in rw fits refl
 
--- nothing was read yet
+-- before the first byte is read
 pub read_nothing : (a : Option (List ℕ)) → Moves a a (λ xs ys. deck xs ≡ read_from 1 None ys (lines_of ys))
 read_nothing a = Moves-refl a (λ xs ys. deck xs ≡ read_from 1 None ys (lines_of ys)) (λ xs. refl)
 
--- reading all is reading on from line n with what the lines before it began
+-- reading the whole deck equals reading on from line n with the draft that the earlier lines made
 abbrev pub ReadsOn : ℕ → Option Draft → List ℕ → List ℕ → Type 0
 ReadsOn n d xs ys = deck xs ≡ read_from n d ys (lines_of ys)
 
@@ -107,7 +101,7 @@ line_refused a b c n d e low told m =
     Moves-trans a b c (ReadsOn n d) (λ xs ys. Refuses n e xs ys (lines_of xs)) (λ xs ys. GivesNoDeck e (deck xs) ys)
     (λ xs ys zs p q. subst (λ r. GivesNoDeck e r zs) (sym p) (refused_there n d e ys zs (lines_of ys) low q)) told m
 
--- one line on
+-- reading on after one more line
 reading_after_a_line : (n : ℕ) (d : Option Draft) (text xs ys zs : List ℕ) → n ≤ 10000000 → length text ≤ 200
     → ReadsOn n d xs ys → Taken text ys zs
     → deck xs ≡ read_on n (applied_line d text) zs (λ s. read_from (n + 1) (Some s) zs (lines_of zs))
@@ -132,13 +126,6 @@ line_fault a b c n d text fault low short told m h =
       reading_after_a_line n d text xs ys zs low short p q
           ∙ ap (λ j. read_on n j zs (λ s. read_from (n + 1) (Some s) zs (lines_of zs))) h,
     )) told m
-
--- memory ran out for a line
-pub line_unmade : (a b c : Option (List ℕ)) (n : ℕ) (d : Option Draft) (text : List ℕ) → Moves a b (ReadsOn n d)
-    → Moves b c (Taken text) → Moves a c (λ xs ys. GivesNoDeck refusals.OutOfMemory (deck xs) ys)
-line_unmade a b c n d text told m =
-    Moves-trans a b c (ReadsOn n d) (Taken text) (λ xs ys. GivesNoDeck refusals.OutOfMemory (deck xs) ys)
-    (λ xs ys zs p q. inr (inl refl)) told m
 
 pub line_goes : (a b c : Option (List ℕ)) (n : ℕ) (d : Option Draft) (text : List ℕ) (next : Draft) → n ≤ 10000000
     → length text ≤ 200 → Moves a b (ReadsOn n d) → Moves b c (Taken text)
@@ -172,7 +159,7 @@ lines_over a b n d e told =
       p ∙ all_read n d ys (lines_of ys) (omega arith) ∙ ap (λ m. Bad m faults.Lines ys) e,
     )) told
 
--- a first line that isn't long
+-- the first line, if it isn't too long
 first_applied : (text : List ℕ) → length text ≤ 200 → applied_line None text ≡ applied_first text
 first_applied text short = let fits : ltb 200 (length text) ≡ false = le-ltb _ _ short in rw fits refl
 
@@ -181,26 +168,3 @@ pub first_fault : (a b : Option (List ℕ)) (text : List ℕ) (fault : DeckFault
     → Moves a b (λ xs ys. GivesNoDeck (refusals.Deck 1 fault) (deck xs) ys)
 first_fault a b text fault short m h =
     line_fault a a b 1 None text fault (omega arith) short (read_nothing a) m (first_applied text short ∙ h)
-
--- the first line begins a deck, unless memory runs out
-pub first_begun : (a b : Option (List ℕ)) (text : List ℕ) (n : ℕ) (r : Result Draft Refusal) → length text ≤ 200
-    → Moves a b (Taken text) → applied_first text ≡ goes_on (begun n)
-    → MatchResult r (λ draft. draft ≡ begun n) (λ refusal. refusal ≡ refusals.OutOfMemory)
-    → IfOk r (λ draft. Moves a b (ReadsOn 2 (Some draft)))
-first_begun a b text n (Ok draft) short m h made =
-    line_goes a a b 1 None text draft (omega arith) short (read_nothing a) m
-    (first_applied text short ∙ h ∙ ap goes_on (sym made))
-first_begun a b text n (Err e) short m h made = tt
-
-pub first_unmade : (a b : Option (List ℕ)) (text : List ℕ) (n : ℕ) (r : Result Draft Refusal)
-    → Moves a b (Taken text)
-    → MatchResult r (λ draft. draft ≡ begun n) (λ refusal. refusal ≡ refusals.OutOfMemory)
-    → IfErr r (λ e. Moves a b (λ xs ys. GivesNoDeck e (deck xs) ys))
-first_unmade a b text n (Ok draft) m made = tt
-first_unmade a b text n (Err e) m made = rw made (line_unmade a a b 1 None text (read_nothing a) m)
-
-pub made_of_reading : (n : ℕ) (r : Result Draft Refusal)
-    → MatchResult r (λ draft. draft ≡ begun n) (λ refusal. refusal ≡ refusals.OutOfMemory)
-    → (is_of_reading r ≡ true) × (is_read_failure r ≡ false)
-made_of_reading n (Ok draft) made = (refl, refl)
-made_of_reading n (Err e) made = rw made (refl, refl)

@@ -1,4 +1,4 @@
--- Lines that have too many fields.
+-- Lines with too many fields.
 use Rattle.std.proofs.Common.{◌≡◌, ℕ, true, false, cond, eqb, List, [], ◌∷◌, refl}
 use Rattle.std.specs.List.{onto_first}
 use Rattle.device_text.specs.Text.{fields_of}
@@ -10,7 +10,7 @@ too_many_onto : (w a b d : List ℕ) (x : ℕ) (parts : List (List ℕ))
 too_many_onto w a b d x [] = refl
 too_many_onto w a b d x (part ∷ parts) = refl
 
--- five fields say nothing
+-- a line with five or more fields is `Unknown`
 pub too_many : (w a b d rest : List ℕ) → parsed_fields (w ∷ a ∷ b ∷ d ∷ fields_of rest) ≡ Unknown
 too_many w a b d [] = refl
 too_many w a b d (x ∷ xs) =

@@ -16,7 +16,7 @@ use Rattle.instructions.specs.declared.refusal.DeckFault.TheVariants as faults
 size_there : (n : ℕ) → is_no_size n ≡ false → is_memory_size n ≡ true
 size_there n h = grind (arith, nat_tests)
 
--- the `core` line with these digits as the first line
+-- the first line is a `core` line with these digits
 pub begins_sized : (digits : List ℕ) (r : Result ℕ DeckFault)
     → MatchResult r (λ n. (number_of 10 6 digits ≡ Some n) × (is_no_size n ≡ false))
     (λ fault. (next : ℕ → LineOutcome) → with_number (number_of 10 6 digits)
@@ -25,7 +25,7 @@ pub begins_sized : (digits : List ℕ) (r : Result ℕ DeckFault)
 begins_sized digits (Ok n) made = (size_there n made.1, rw (made.0, made.1) refl)
 begins_sized digits (Err fault) made = made (λ n. goes_on (begun n))
 
--- a later `core` line whose size is at fault
+-- a later `core` line with a wrong size
 pub core_fault : (d : Draft) (text digits : List ℕ) (fault : DeckFault) → length text ≤ 200
     → parsed_line text ≡ says.Core digits
     → ((next : ℕ → LineOutcome) → with_number (number_of 10 6 digits)

@@ -1,4 +1,4 @@
--- How many bytes are after a deck of which not all was read.
+-- The number of bytes after a deck that was read only in part.
 use Rattle.std.proofs.Common.{◌≡◌, ◌≢◌, ℕ, suc, ◌+◌, ◌≤◌, true, false, cond, eqb, Bool, ltb, List, [], ◌∷◌}
 use Rattle.std.proofs.Common.{◌++◌, length, drop, Option, None, Some, Ok, Err, sym, subst, arith}
 use Rattle.std.proofs.Common.{inl, inr, ap, ◌∙◌}
@@ -16,7 +16,7 @@ use Rattle.instructions.specs.declared.refusal.DeckFault.TheVariants as faults
 use Rattle.deck.proofs.DeckLines.{ReadsOn, Taken}
 use Rattle.device_text.proofs.Moving.{Moves-trans}
 
--- after each line are at most k bytes
+-- after each line, at most k bytes are left
 abbrev Behind : ℕ → List (List ℕ × List ℕ) → Type 0
 Behind k [] = Unit {0}
 Behind k (line ∷ lines) = (length line.1 ≤ k) × Behind k lines
@@ -50,7 +50,7 @@ on_within k n (Ok (Goes s)) rest next l h = h s
 on_within k n (Ok (Ends whole)) rest next l h = l
 on_within k n (Err fault) rest next l h = tt
 
--- the same of a line that may be too long
+-- the same for a line that may be too long
 line_within : (k n : ℕ) (long : Bool) (j : LineOutcome) (bytes rest : List ℕ) (next : Draft → Reading) → length rest ≤ k
     → ((s : Draft) → EndsWithin k (next s))
     → EndsWithin k (read_on n (refuse_if long faults.Long j) (cond long (drop 201 bytes) rest) next)
@@ -69,11 +69,11 @@ from_within k n s bytes (line ∷ lines) h =
           (λ t. read_from (n + 1) (Some t) line.1 lines) h.0 (λ t. from_within k (n + 1) (Some t) line.1 lines h.1)
     ]
 
--- what is left is at most what is after the deck
+-- the unread bytes are at most the bytes after the deck
 abbrev pub Unread : List ℕ → List ℕ → Type 0
 Unread xs ys = EndsWithin (length ys) (deck xs)
 
--- the read of a line failed: the other refusal of a line is a fault
+-- reading a line failed, since the line's only other refusal is a fault of the deck
 failed_read : (n : ℕ) (e : Refusal) (xs ys : List ℕ) → Refuses n e xs ys (lines_of xs)
     → is_cut {T = Deck × ℕ} (Err e) ≡ true → is_read_failure {T = Unit {0}} (Err e) ≡ true
 failed_read n e xs ys (inl h) c =

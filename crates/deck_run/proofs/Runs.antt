@@ -1,4 +1,4 @@
--- A run of a deck: where it is at its end, and where no deck was read.
+-- The end of a deck's run, and the end if no deck could be read.
 use Rattle.std.proofs.Common.{◌≡◌, List, ℕ, Option, Err, true, false, refl, inl, inr}
 use Rattle.std.proofs.KnownBytes.{Keeps-refl}
 use Rattle.instructions.specs.declared.refusal.Refusal.{Refusal}
@@ -25,12 +25,12 @@ runs_refused a b e fault budget old same m =
     Moves-weaker a b (λ xs ys. GivesNoDeck e (deck xs) ys) (λ xs ys. Runs (Err fault) (deck xs) budget ys old old)
     (λ xs ys h. rw same (refused_there e (deck xs) budget ys old h)) m
 
--- where no deck was read, the program ends for a failed read where a read failed
+-- if no deck was read, the program reports a failed read exactly if a read failed
 pub read_told : (e : Refusal) → is_read_failure {T = Deck × ℕ} (Err e) ≡ is_read_fault (Err (fault_of e))
 read_told refusals.Read = refl
 read_told other = refl
 
--- and never for a failed write
+-- if no deck was read, the program never reports a failed write
 pub unwritten : (e : Refusal) → is_of_reading {T = Deck × ℕ} (Err e) ≡ true → is_write_fault (Err (fault_of e)) ≡ false
 unwritten refusals.Write h = cc
 unwritten other h = refl

@@ -1,4 +1,4 @@
--- The lines of bytes, by what a reading of a line took.
+-- The lines of a text, by the bytes that reading one line takes.
 use Rattle.std.proofs.Common.{◌≡◌, ◌≢◌, ℕ, suc, ◌<◌, ◌≤◌, false, cond, eqb, List, [], ◌∷◌, ◌++◌, length, refl, sym, ap}
 use Rattle.std.proofs.Common.{◌∙◌, subst, arith, All, inl, inr}
 use Rattle.std.proofs.lemmas.Bool.{ne_eqb}
@@ -6,21 +6,21 @@ use Rattle.std.proofs.lemmas.List.Elements.{All-head, All-tail}
 use Rattle.device_text.specs.Line.{IsText, LineTaken, lines_of, onto}
 use Rattle.device_text.specs.declared.line.LineRead.TheVariants.{Whole}
 
--- what each has, the first and the others have
+-- a property of all elements holds for the first one and for the others
 All-uncons : {X : Type 0} (P : X → Type 0) (x : X) (xs : List X) → All P (x ∷ xs) → P x × All P xs
 All-uncons P x xs h = (All-head P x xs h, All-tail P x xs h)
 
 no_end : (b : ℕ) → b ≢ 10 → eqb b 10 ≡ false
 no_end b h = ne_eqb b 10 h
 
--- a line with its end, and then the lines of the rest
+-- a line that ends in a line end, followed by the lines of the rest
 lines_ended : (text ys : List ℕ) → IsText text → lines_of (text ++ 10 ∷ ys) ≡ (text, ys) ∷ lines_of ys
 lines_ended [] ys h = refl
 lines_ended (b ∷ text) ys h =
     let p = All-uncons (λ b. b ≢ 10) b text h in
     rw (no_end b p.0, lines_ended text ys p.1) refl
 
--- a line that the end of the bytes ends
+-- a last line without a line end
 lines_cut : (b : ℕ) (text : List ℕ) → IsText (b ∷ text) → lines_of (b ∷ text) ≡ (b ∷ text, []) ∷ []
 lines_cut b [] h = rw (no_end b (All-uncons (λ b. b ≢ 10) b [] h).0) refl
 lines_cut b (c ∷ text) h =

@@ -1,5 +1,5 @@
--- Laws of `Moves`: what calls one after another do to known bytes.
-use Rattle.std.proofs.Common.{◌≡◌, ℕ, List, [], ◌∷◌, ◌++◌, Option, None, Some, subst, sym, ap, ◌∙◌, append_assoc, refl}
+-- Laws of `Moves`: the effect of consecutive calls on known bytes.
+use Rattle.std.proofs.Common.{◌≡◌, ℕ, List, [], ◌++◌, Option, None, Some, subst, sym, ap, ◌∙◌, append_assoc, refl}
 use Rattle.std.proofs.Common.{append-nil, Result, Ok, Err, ◌-◌, ◌+◌, length, take, drop}
 use Rattle.std.proofs.Common.{◌<◌, suc, get_or, add-one}
 use Rattle.std.specs.List.{flat_map}
@@ -27,11 +27,7 @@ Moves-weaker None b P Q h p = tt
 Moves-weaker (Some xs) None P Q h p = absurd p
 Moves-weaker (Some xs) (Some ys) P Q h p = h xs ys p
 
--- one more byte after the bytes that were taken
-pub one_more : (text : List ℕ) (b : ℕ) (xs ys zs : List ℕ) → xs ≡ text ++ ys → ys ≡ b ∷ zs → xs ≡ (text ++ b ∷ []) ++ zs
-one_more text b xs ys zs p q = p ∙ ap (λ l. text ++ l) q ∙ sym (append_assoc text (b ∷ []) zs)
-
--- the writer took the first w bytes, and then n of the rest
+-- the writer has taken the first w bytes, and now takes n more
 pub written : (a b c : Option (List ℕ)) (bytes : List ℕ) (w n : ℕ) → Appends a b (take w bytes)
     → Appends b c (take n (take (length bytes - w) (drop w bytes))) → Appends a c (take (w + n) bytes)
 written a b c bytes w n p q =
@@ -43,13 +39,13 @@ written a b c bytes w n p q =
 pub nothing_written : (a : Option (List ℕ)) (all : List ℕ) → WritesAllBut all a a all
 nothing_written a all = ([], refl, Appends-nil a)
 
--- one more piece
+-- after one more piece was written
 pub piece_written : (a b c : Option (List ℕ)) (piece rest all : List ℕ) → WritesAllBut (piece ++ rest) a b all
     → Appends b c piece → WritesAllBut rest a c all
 piece_written a b c piece rest all h p =
     (h.0 ++ piece, h.1 ∙ sym (append_assoc h.0 piece rest), Appends-trans a b c h.0 piece h.2 p)
 
--- an error in a piece
+-- a write fails within a piece
 pub piece_cut : (a b c : Option (List ℕ)) (piece rest all : List ℕ) → WritesAllBut (piece ++ rest) a b all
     → WritesFront b c piece → WritesFront a c all
 piece_cut a b c piece rest all h p = (
@@ -71,11 +67,11 @@ each_left f xs i d h = ap (flat_map f) (drop-cons xs i d h) ∙ flat_map-cons f 
 
 -- ---- texts one after another, as calls with `?` write them
 
--- an error in the first text
+-- a write fails within the first text
 pub cut_in : (a b : Option (List ℕ)) (t rest : List ℕ) → WritesFront a b t → WritesFront a b (t ++ rest)
 cut_in a b t rest w = (w.0 ++ rest, (w.1.0, ap (λ l. l ++ rest) w.1.1 ∙ append_assoc w.1.0 w.0 rest, w.1.2))
 
--- an error after the first text
+-- a write fails after the first text
 pub cut_after : (a b c : Option (List ℕ)) (t rest : List ℕ) → Appends a b t → WritesFront b c rest
     → WritesFront a c (t ++ rest)
 cut_after a b c t rest p w =
@@ -86,12 +82,12 @@ pub writes_after : {E : Type 0} (r : Result (Unit {0}) E) (a b c : Option (List 
 writes_after (Ok x) a b c t rest p w = Appends-trans a b c t rest p w
 writes_after (Err e) a b c t rest p w = cut_after a b c t rest p w
 
--- the last text, as `concat` has it
+-- the last text, in the form that `concat` gives it
 pub writes_last : {E : Type 0} (r : Result (Unit {0}) E) (a b : Option (List ℕ)) (t : List ℕ) → Writes r a b t
     → Writes r a b (t ++ [])
 writes_last r a b t w = subst (Writes r a b) (sym (append-nil t)) w
 
--- a flush after all was written
+-- a flush after everything was written
 pub flushed : {E : Type 0} (r : Result (Unit {0}) E) (a b c : Option (List ℕ)) (all : List ℕ) → Appends a b all
     → Keeps b c → Writes r a c all
 flushed (Ok x) a b c all p k = Appends-kept a b c all p k

@@ -13,7 +13,7 @@ pub all_digits : (base : ℕ) (cs : List ℕ) → list_all (λ c. is_digit c bas
 all_digits base [] e = tt
 all_digits base (c ∷ cs) e = let h = and_parts (is_digit c base) _ e in (ltb-true _ _ h.0, all_digits base cs h.1)
 
--- one more digit fits
+-- the value has room for one more digit
 pub room : (base most v d : ℕ) (cs : List ℕ) → 2 ≤ base → base ^ most ≤ 2 ^ 64 → length cs < most
     → list_all (λ c. is_digit c base) cs ≡ true → v ≡ digits_value base cs → d < base → v * base + d < 2 ^ 64
 room base most v d cs low fits few digits is small =
@@ -26,7 +26,7 @@ room base most v d cs low fits few digits is small =
     let times : suc v * base ≤ base ^ length cs * base = mul-le-mul_right base up in
     omega (arith, power, product, times)
 
--- room, for the digits before position i of a text
+-- room for one more digit at position i of a text
 pub room_at : (base most v d b i : ℕ) (text : List ℕ) → 2 ≤ base → base ^ most ≤ 2 ^ 64 → length text ≤ most
     → i < length text → list_all (λ c. is_digit c base) (take i text) ≡ true → v ≡ digits_value base (take i text)
     → d < base → b ≡ base → v * b + d < 2 ^ 64
@@ -35,7 +35,7 @@ room_at base most v d b i text low fits few inside digits is small same =
     let all = room base most v d (take i text) low fits short digits is small in
     rw same all
 
--- one more digit
+-- the digits up to and including position i
 pub digits_on : (base i c : ℕ) (text : List ℕ) → i < length text → list_all (λ c. is_digit c base) (take i text) ≡ true
     → c ≡ get_or text i 0 → digit_value c < base → list_all (λ c. is_digit c base) (take (i + 1) text) ≡ true
 digits_on base i c text inside digits is small =
@@ -47,7 +47,7 @@ pub value_on : (base i v c b d : ℕ) (text : List ℕ) → i < length text → 
 value_on base i v c b d text inside is at same digit =
     rw (digits_value_more base text i inside, ← at, ← is, same, digit) refl
 
--- what digits are is below the power of the base that has as many noughts
+-- a number with k digits is below the base to the power k
 pub value_below : (base most v : ℕ) (text : List ℕ) → 2 ≤ base → length text ≤ most
     → list_all (λ c. is_digit c base) text ≡ true → v ≡ digits_value base text → v < base ^ most
 value_below base most v text low few digits is =

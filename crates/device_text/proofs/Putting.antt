@@ -1,4 +1,4 @@
--- Laws of `Puts`: texts one after another, as calls with `?` write them, and a text for each item of a list.
+-- Laws of `Puts`: texts that are put one after another by calls with `?`, and a text for each item of a list.
 use Rattle.std.proofs.Common.{◌≡◌, ℕ, ◌+◌, ◌<◌, true, List, [], ◌++◌, length, drop, get_or, Result, Ok, Err}
 use Rattle.std.proofs.Common.{ap, subst, ◌∙◌}
 use Rattle.std.specs.Prelude.{IsErrAnd}
@@ -10,7 +10,7 @@ use Rattle.device_text.specs.declared.output.Output as output
 use Rattle.device_text.specs.declared.output.WriteFailed.{WriteFailed}
 use Rattle.device_text.proofs.Moving.{cut_in, writes_after, writes_last, flushed, piece_written, piece_cut, each_left}
 
--- all of the text but the rest was written, and no call failed
+-- everything but the rest was put, and no call failed
 pub record PutsAllBut {X : Type 0} (device : output.Ghosts X) (rest : List ℕ) (old new : X) (all : List ℕ)
     : Type 0 where
   pub written : WritesAllBut rest (device.contents old) (device.contents new) all
@@ -20,7 +20,7 @@ pub record PutsAllBut {X : Type 0} (device : output.Ghosts X) (rest : List ℕ) 
 module _ {X : Type 0} (device : output.Ghosts X) where
   -- ---- texts one after another, as calls with `?` write them
 
-  -- a text, and then what is written after it
+  -- a text, and then the texts after it
   pub puts_after : {u : Unit {0}} (r : Result (Unit {0}) WriteFailed) (a b c : X) (t rest : List ℕ)
       → Puts device (Ok u) a b t → Puts device r b c rest → Puts device r a c (t ++ rest)
   puts_after r a b c t rest p q =
@@ -30,7 +30,7 @@ module _ {X : Type 0} (device : output.Ghosts X) where
         same = q.same ∙ p.same;
       }
 
-  -- the last text, as `concat` has it
+  -- the last text, in the form that `concat` gives it
   pub puts_last : (r : Result (Unit {0}) WriteFailed) (a b : X) (t : List ℕ) → Puts device r a b t
       → Puts device r a b (t ++ [])
   puts_last r a b t p =
@@ -40,7 +40,7 @@ module _ {X : Type 0} (device : output.Ghosts X) where
         same = p.same;
       }
 
-  -- an error in a text, which `?` hands on
+  -- an error in a text, which `?` returns
   pub puts_cut : (r : Result (Unit {0}) WriteFailed) (Q : WriteFailed → Type 0) → IsErrAnd r Q
       → {e : WriteFailed} (a b : X) (t rest : List ℕ) → Puts device (Err e) a b t → Puts device r a b (t ++ rest)
   puts_cut (Ok u) Q h a b t rest p = absurd h
@@ -51,7 +51,7 @@ module _ {X : Type 0} (device : output.Ghosts X) where
         same = p.same;
       }
 
-  -- a flush after all was written
+  -- a flush after everything was put
   pub puts_flushed : {u : Unit {0}} (r : Result (Unit {0}) WriteFailed) (a b c : X) (all : List ℕ)
       → Puts device (Ok u) a b all → Keeps (device.contents b) (device.contents c)
       → device.has_failed c ≡ failed_after (device.has_failed b) r → device.lender c ≡ device.lender b

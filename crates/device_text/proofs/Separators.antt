@@ -8,7 +8,7 @@ use Rattle.std.proofs.lemmas.List.Quantifiers.{position-Some}
 use Rattle.std.proofs.lemmas.List.Sums.{position_or_len_is, fails_before_first}
 use Rattle.std.proofs.lemmas.List.{take_rest}
 
--- what stands before the first separator, and the parts after it
+-- the part before the first separator, and the parts after it
 pub split_found : (c : ℕ) (xs : List ℕ) (i : ℕ) → position (λ b. eqb b c) xs ≡ Some i
     → slice_split (λ b. eqb b c) xs ≡ take i xs
     ∷ slice_split (λ b. eqb b c) (take (length xs - (i + 1)) (drop (i + 1) xs))

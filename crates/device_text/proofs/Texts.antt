@@ -1,4 +1,4 @@
--- Digits without noughts in front.
+-- Digits without leading zeros.
 use Rattle.std.proofs.Common.{◌≡◌, ℕ, ◌≤◌, List, [], ◌∷◌, length, refl, arith}
 use Rattle.device_text.specs.Pieces.{trimmed}
 

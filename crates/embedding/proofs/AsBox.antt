@@ -1,4 +1,4 @@
--- The pointer, with a machine, and the parts own what a box at the same types owns.
+-- A pointer to a machine and its parts own the same as a box of the same types.
 use mir.Syntax.{impl, tnil, dnil}
 use mathlib.Core.List.{[]}
 use denote.RattleType.{RattleType}
@@ -26,7 +26,7 @@ FromParts = plain (λ _. Parts.the_row Booted.the_row Heap.the_row ghosts)
 abbrev pub FromPointer : Slot 0
 FromPointer = plain (λ _. Pointer.the_row)
 
--- what an option holds that holds something
+-- the value in an option that isn't `None`
 pub held : {A : Type 0} (o : Option A) → is_some o ≡ true → A
 held (Some x) is = x
 held None is = absurd (true≢false (sym is))

@@ -1,9 +1,9 @@
--- Copying words of a memory from an address on into a list of numbers, one after another.
+-- Copying words of memory, from an address on, into a list of numbers.
 use Rattle.std.proofs.Common.{◌≡◌, ℕ, ◌+◌, ◌<◌, List, [], ◌∷◌, ◌++◌, length, take, drop, min, refl, sym, ap, ◌∙◌, subst, arith}
 use Rattle.std.proofs.lemmas.List.{take_more, take_more_set, drop-set-lt, drop_more, length-set, get_or-drop, length-drop, take-append-drop}
 use Rattle.std.specs.Prelude.{slice_set, slice_index_or}
 
--- k words were copied, and those after them are as they were
+-- the first k words were copied, and the words after them are unchanged
 pub record IsCopiedTo (memory words old : List ℕ) (first k : ℕ) : Type 0 where
   pub same_length : length words ≡ length old
   pub copied : take k words ≡ take k (drop first memory)
@@ -13,11 +13,11 @@ tail : List ℕ → List ℕ
 tail [] = []
 tail (x ∷ xs) = xs
 
--- the beginning
+-- before the first word
 pub copied_none : (memory words : List ℕ) (first : ℕ) → IsCopiedTo memory words words first 0
 copied_none memory words first = record { same_length = refl; copied = refl; left = refl }
 
--- the next word
+-- after one more word
 pub copied_more : (memory words old : List ℕ) (first k word : ℕ) → IsCopiedTo memory words old first k → k < length old
     → first + k < length memory → word ≡ slice_index_or memory (first + k) 0
     → IsCopiedTo memory (slice_set words k word) old first (k + 1)
@@ -34,7 +34,7 @@ copied_more memory words old first k word is in_words in_memory same =
           ∙ ap tail (sym (drop_more words k 0 here) ∙ is.left ∙ drop_more old k 0 in_words);
     }
 
--- all of them
+-- after all words
 pub copied_all : (memory words old : List ℕ) (first k : ℕ) → IsCopiedTo memory words old first k
     → k ≡ min (length (drop first memory)) (length old)
     → words ≡ take (min (length (drop first memory)) (length old)) (drop first memory)

@@ -1,4 +1,4 @@
--- A call on the handle of a machine, by what it does to the machine.
+-- A call on the handle of a machine, described by its effect on the machine.
 use Rattle.std.specs.Prelude.{◌≡◌, Option, Some}
 use Rattle.std.proofs.Common.{sym, subst}
 use Rattle.embedding.specs.declared.booted.Booted.{Booted}

@@ -1,4 +1,4 @@
--- Which event is made with nothing pending, by the answer to an exchange.
+-- The next event if nothing is pending, as the answer to an exchange decides it.
 use Rattle.std.specs.Prelude.{◌≡◌, Option, Some, None, Result, Ok, Err, is_none, if◌then◌else◌}
 use Rattle.std.proofs.Common.{refl, sym, ap, ◌∙◌, true≢false, inl, inr}
 use Rattle.instructions.specs.declared.refusal.Refusal.{Refusal}
@@ -14,7 +14,7 @@ is_made : Result Done Refusal → Event
 is_made (Ok done) = Exchange
 is_made (Err refusal) = Issue
 
--- the answer that may be given says which of the two is made
+-- the answer to an exchange decides whether an exchange or an issue is made
 chosen : (done : Done) (o : Option Refusal) → (if is_none o then Exchange else Issue) ≡ is_made (answer_by done o)
 unfolding answer_by is_made
 chosen done None = refl

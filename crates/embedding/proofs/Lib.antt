@@ -1,5 +1,4 @@
--- Lemmas: several next events; boxes as pointers; calls on handles; words that are copied one after another; which event
--- is made next.
+-- Lemmas: several next events, boxes as pointers, calls on handles, copying words, and the choice of the next event.
 mod AsBox
 mod Copying
 mod Handles

@@ -46,7 +46,7 @@ unfolding next_of
 of_room [] busy idle h = h
 of_room (m ∷ ms) busy idle h = in_room m.unit m.phase busy
 
--- the next event takes no memory
+-- the next event needs no memory
 next_room : (w : Processor) → makes_room (next_event w) ≡ false
 unfolding makes_room
 next_room w = of_room w.pending w.busy (idle_event w) (either_room _ Exchange Issue refl refl)
@@ -60,7 +60,7 @@ unfolding answer_by is_ok
 ok_if done None = refl
 ok_if done (Some refusal) = refl
 
--- an event that is made is one step
+-- a made event is one step
 step_made : (w v : Processor) (e : Event) (done : Done) → e ≡ next_event w → IsAnswer w e (Ok done)
     → v ≡ settled w e (Ok done) → stepped w ≡ Some v
 unfolding stepped settled
@@ -69,7 +69,7 @@ step_made w v e done n h s =
     ap (λ o. if is_none o then Some (after w (next_event w)) else None) none
     ∙ ap (λ x. Some (after w x)) (sym n) ∙ ap Some (sym s)
 
--- after an event that is refused there is no step
+-- after a refused event there is no step
 step_refused : (w : Processor) (e : Event) (refusal : Refusal) → e ≡ next_event w → IsAnswer w e (Err refusal)
     → stepped w ≡ None
 unfolding stepped answer_of is_ok
@@ -82,7 +82,7 @@ step_refused w e refusal n (inr growth) =
 
 -- ---- several ----
 
--- this many events were made so far, and after none of them did the machine rest at the address
+-- n events were made so far, and after none of them was the machine at rest at the address
 pub record Going (most address : ℕ) (w v : Processor) (n : ℕ) : Type 0 where
   pub made : stepped_by n w ≡ Some v
   pub within : n ≤ most
@@ -117,7 +117,7 @@ one_made w v x n h k = simp unary_clauses (ap then_stepped h ∙ k)
 some_same : (x y : Processor) → Some x ≡ Some y → x ≡ y
 some_same x y h = cc
 
--- after one more event the machine doesn't rest at the address either
+-- after one more event the machine isn't at rest at the address either
 never_more : (address : ℕ) (w x : Processor) (n : ℕ) → NeverRests address n w → stepped_by (n + 1) w ≡ Some x
     → rests_at address x ≡ false → NeverRests address (n + 1) w
 unfolding NeverRests

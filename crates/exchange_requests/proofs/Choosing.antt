@@ -1,9 +1,9 @@
--- Of which kind a request was: if the exchanges begin with those of all requests that are due, it was one of these, and
--- else it was one at any time.
+-- Which request an exchange belongs to: a request that is due, if the exchanges begin with those of all due requests,
+-- and otherwise a request at any time.
 use Rattle.std.proofs.Common.{◌≡◌, ◌⊎◌, inl, inr, ◌<◌, ◌≤◌, ◌+◌, ℕ, Bool, true, false, cond, not, ◌&&◌, ◌||◌, length}
 use Rattle.std.proofs.Common.{List, [], ◌∷◌, refl, sym, ap, subst, ◌∙◌, arith, ltb-true, leb-true, le-leb}
 use Rattle.std.proofs.lemmas.Bool.{lt-ltb}
-use Rattle.std.proofs.lemmas.Bool.{eqb-true, eq-eqb, ltb-false, leb-false}
+use Rattle.std.proofs.lemmas.Bool.{eqb-true, eq-eqb, leb-false}
 use Rattle.std.specs.Prelude.{drop, nat_eq, nat_le, nat_lt}
 use Rattle.exchange_requests.specs.Fulfilled.{is_in_time, is_next_ask, is_next_free, are_done, fulfils}
 use Rattle.exchange_requests.specs.inner.Judging.{starts_with_due, is_made, is_of_ask, AreWithin}
@@ -24,7 +24,7 @@ pair_is p a b e f = rw (sym e, sym f) refl
 
 -- ---- a request that was due at the last exchange ----
 
--- no other exchange comes before its own
+-- an exchange before the request's own comes too early
 late : (now then : ℕ) (ask : ℕ × ℕ) (asks : List (ℕ × ℕ)) → ask.1 ≤ now → is_in_time now then (ask ∷ asks) ≡ false
 unfolding is_in_time
 late now then ask asks d = by_test (nat_lt now ask.1) refl
@@ -53,7 +53,7 @@ not_free now made ask asks (at ∷ free) d = by_test (nat_eq made.0 at)
     by_test false = refl
     by_test true = late now made.1 ask asks d
 
--- what is known of an exchange that is that of the next request after a number of instructions
+-- facts about an exchange that belongs to the next request after a number of instructions
 record OfAsk (last : ℕ) (made ask : ℕ × ℕ) (asks : List (ℕ × ℕ)) : Type 0 where
   at : made.0 ≡ ask.0
   due : ask.1 ≤ made.1
@@ -74,7 +74,7 @@ at_once now made ask asks d o = by_case (either (nat_eq made.1 now) _ o.in_time)
     by_case (inl e) = eqb-true made.1 now e
     by_case (inr e) = let n = late now made.1 ask asks d in absurd (cc)
 
--- the next exchange is its own, after no more instructions
+-- the next exchange belongs to the due request, with no instruction between
 record Forced (m : Bool) (total now : ℕ) (ask : ℕ × ℕ) (asks : List (ℕ × ℕ)) (free : List ℕ) (made : List (ℕ × ℕ))
     : Type 0 where
   more : List (ℕ × ℕ)
@@ -137,7 +137,7 @@ due_on m total now ask asks free made w e others = by_test (nat_le ask.1 now) re
         subst (λ x. starts_with_due now (ask ∷ asks) x ≡ true) (sym f.made_is)
         (starts_on now ask (ask.0, now) asks f.more d refl refl ∙ others f.more f.on)
 
--- their exchanges come next
+-- the exchanges of the due requests come next
 due_next : (m : Bool) (total now : ℕ) (asks : List (ℕ × ℕ)) (free : List ℕ) (made : List (ℕ × ℕ)) → now ≤ total
     → fulfils m total now asks free made ≡ true → starts_with_due now asks made ≡ true
 unfolding starts_with_due
@@ -147,7 +147,7 @@ due_next m total now (ask ∷ asks) free made w e =
 
 -- ---- the same exchange before and behind them ----
 
--- an exchange at any time, where no other request is due
+-- an exchange at any time, while no other request is due
 free_on : (m : Bool) (total now at : ℕ) (asks : List (ℕ × ℕ)) (free : List ℕ) (made : List (ℕ × ℕ))
     → is_in_time now now asks ≡ true → fulfils m total now asks free made ≡ true
     → fulfils m total now asks (at ∷ free) ((at, now) ∷ made) ≡ true
@@ -160,7 +160,7 @@ free_on m total now at asks free made t e =
     or_true true = refl
     or_true false = refl
 
--- an exchange of a request that is due
+-- an exchange for a request that is due
 ask_on : (m : Bool) (total now : ℕ) (ask : ℕ × ℕ) (asks : List (ℕ × ℕ)) (free : List ℕ) (made : List (ℕ × ℕ))
     → ask.1 ≤ now → fulfils m total now asks free made ≡ true
     → fulfils m total now (ask ∷ asks) free ((ask.0, now) ∷ made) ≡ true
@@ -174,7 +174,7 @@ unfolding is_in_time
 not_due_yet now ask asks e =
     let l = leb-false ask.1 now e in rw (le-leb now (ask.1 + 3) (omega (arith, l)), lt-ltb now ask.1 l) refl
 
--- a first exchange that is that of the first request that is due
+-- the first exchange belongs to the first request that is due
 record StartsOn (now : ℕ) (made ask : ℕ × ℕ) (asks more : List (ℕ × ℕ)) : Type 0 where
   at : made.0 ≡ ask.0
   others : starts_with_due now asks more ≡ true
@@ -209,7 +209,7 @@ shift_on m total now at ask asks free made w s e others = by_test (nat_le ask.1 
         (ask_on m total now ask asks (at ∷ free) made d
         (subst (λ x. fulfils m total now asks (at ∷ free) x ≡ true) (sym same) there))
 
--- an exchange at any time may as well be behind those of the requests that are due, where they look the same
+-- an exchange at any time can be moved behind equal exchanges of due requests
 shift : (m : Bool) (total now at : ℕ) (asks : List (ℕ × ℕ)) (free : List ℕ) (made : List (ℕ × ℕ)) → now ≤ total
     → starts_with_due now asks ((at, now) ∷ made) ≡ true → fulfils m total now asks free made ≡ true
     → fulfils m total now asks (at ∷ free) ((at, now) ∷ made) ≡ true
@@ -241,7 +241,7 @@ free_too m total last made ask asks (at ∷ free) more w o s e =
     let f = forced m total made.1 ask asks (at ∷ free) ((at, made.1) ∷ more) o.due w there in
     subst (λ x. fulfils m total made.1 asks (at ∷ free) x ≡ true) (sym (ap (drop 1) f.made_is)) f.on
 
--- it was made for the next request after a number of instructions
+-- the exchange was made for the next request after a number of instructions
 pub ask_taken : (m : Bool) (total last : ℕ) (made : ℕ × ℕ) (asks : List (ℕ × ℕ)) (free : List ℕ) (more : List (ℕ × ℕ))
     → made.1 ≤ total → is_of_ask last asks (made ∷ more) ≡ true
     → fulfils m total last asks free (made ∷ more) ≡ fulfils m total made.1 (drop 1 asks) free more
@@ -252,7 +252,7 @@ ask_taken m total last made (ask ∷ asks) free more w e =
     taken_by (is_next_ask last made (ask ∷ asks)) (fulfils m total made.1 asks free more) _ p.0
     (free_too m total last made ask asks free more w (of_ask last made ask asks p.0) p.1)
 
--- it can't have been made for it
+-- the exchange can't belong to that request
 not_taken : (m : Bool) (total last : ℕ) (made : ℕ × ℕ) (asks : List (ℕ × ℕ)) (free : List ℕ) (more : List (ℕ × ℕ))
     → made.1 ≤ total → is_of_ask last asks (made ∷ more) ≡ false
     → (is_next_ask last made asks && fulfils m total made.1 (drop 1 asks) free more) ≡ false
@@ -272,7 +272,7 @@ not_taken m total last made (ask ∷ asks) free more w e =
         let k : is_of_ask last (ask ∷ asks) (made ∷ more) ≡ true = rw (p.0, s) refl in
         sym k ∙ e
 
--- it was made for the next request at any time
+-- the exchange was made for the next request at any time
 pub free_taken : (m : Bool) (total last : ℕ) (made : ℕ × ℕ) (asks : List (ℕ × ℕ)) (free : List ℕ)
     (more : List (ℕ × ℕ)) → made.1 ≤ total → is_of_ask last asks (made ∷ more) ≡ false
     → is_next_free last made asks free ≡ true
@@ -280,7 +280,7 @@ pub free_taken : (m : Bool) (total last : ℕ) (made : ℕ × ℕ) (asks : List 
 unfolding fulfils
 free_taken m total last made asks free more w e f = rw (not_taken m total last made asks free more w e, f) refl
 
--- it was made for no request
+-- the exchange was made for no request
 pub none_taken : (m : Bool) (total last : ℕ) (made : ℕ × ℕ) (asks : List (ℕ × ℕ)) (free : List ℕ)
     (more : List (ℕ × ℕ)) → made.1 ≤ total → is_of_ask last asks (made ∷ more) ≡ false
     → is_next_free last made asks free ≡ false → fulfils m total last asks free (made ∷ more) ≡ false
@@ -289,7 +289,7 @@ none_taken m total last made asks free more w e f = rw (not_taken m total last m
 
 -- ---- the loop over the exchanges ----
 
--- there is such a request
+-- there is a request for the exchange
 pub some_ask : (last : ℕ) (made : ℕ × ℕ) (asks left more : List (ℕ × ℕ)) → left ≡ made ∷ more
     → is_of_ask last asks left ≡ true → 0 < length asks
 unfolding is_next_ask
@@ -305,7 +305,7 @@ unfolding is_next_free
 some_free last made asks [] t = cc
 some_free last made asks (at ∷ free) t = omega arith
 
--- the requests that are left once the first exchange has its own decide as before
+-- once the first exchange has its request, the remaining requests decide as before
 pub given : (m : Bool) (total last : ℕ) (made : ℕ × ℕ) (asks : List (ℕ × ℕ)) (free : List ℕ)
     (left more : List (ℕ × ℕ)) (all is_ask : Bool) → left ≡ made ∷ more → AreWithin total left
     → is_ask ≡ is_of_ask last asks left → (is_ask ≡ false → is_next_free last made asks free ≡ true)
@@ -329,12 +329,6 @@ pub not_given : (m : Bool) (total last : ℕ) (made : ℕ × ℕ) (asks : List (
 not_given m total last made asks free left more all e w t f h =
     sym (none_taken m total last made asks free more (subst (λ l. AreWithin total l) e w).0
     (ap (is_of_ask last asks) (sym e) ∙ t) f) ∙ ap (fulfils m total last asks free) (sym e) ∙ h
-
--- no exchange is left
-pub all_given : (m : Bool) (total last : ℕ) (asks : List (ℕ × ℕ)) (free : List ℕ) (left : List (ℕ × ℕ)) (all : Bool)
-    → length left ≡ 0 → fulfils m total last asks free left ≡ all → fulfils m total last asks free [] ≡ all
-all_given m total last asks free [] all n h = h
-all_given m total last asks free (x ∷ more) all n h = absurd (omega (arith, n))
 
 pub within_rest : (total : ℕ) (made : ℕ × ℕ) (left more : List (ℕ × ℕ)) → left ≡ made ∷ more → AreWithin total left
     → AreWithin total more

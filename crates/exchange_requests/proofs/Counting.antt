@@ -1,4 +1,4 @@
--- The exchanges of a log's entries, and how many instructions come before each.
+-- The exchanges among a log's entries, each with the number of instructions before it.
 use Rattle.std.proofs.Common.{◌≡◌, ◌<◌, ◌≤◌, ◌+◌, ℕ, zero, suc, List, [], ◌∷◌, ◌++◌, length, refl, sym, ap, subst}
 use Rattle.std.proofs.Common.{◌∙◌, arith}
 use Rattle.std.proofs.lemmas.List.{take_more, take-append-drop}
@@ -36,7 +36,7 @@ exchanges_append n (Exchanged at ∷ xs) ys = ap (λ l. (at, n) ∷ l) (exchange
 exchanges_append n (ReadAt a ∷ xs) ys = exchanges_append n xs ys
 exchanges_append n (Wrote a w ∷ xs) ys = exchanges_append n xs ys
 
--- the steps of the entries up to this one, and with it
+-- the steps of the entries before position i, and with the entry there
 steps_more : (entries : List Entry) (i : ℕ) (d : Entry) → i < length entries
     → steps_of (take (i + 1) entries) ≡ steps_of (take i entries) ++ steps_of (slice_index_or entries i d ∷ [])
 steps_more entries i d l =
@@ -59,7 +59,7 @@ count_more entries i d l =
     ap issued (steps_more entries i d l)
     ∙ issued-append (steps_of (take i entries)) (steps_of (slice_index_or entries i d ∷ []))
 
--- the first entries have no more instructions than all
+-- the first entries have no more instructions than all entries
 pub count_within : (entries : List Entry) (i : ℕ)
     → issued (steps_of (take i entries)) ≤ issued (steps_of entries)
 count_within entries i =
@@ -74,7 +74,7 @@ count_within entries i =
 within_more : (n m : ℕ) (made : List (ℕ × ℕ)) → n ≡ m → AreWithin n made → AreWithin m made
 within_more n m made e a = subst (λ k. AreWithin k made) e a
 
--- no exchange is made after more instructions than the log has
+-- no exchange comes after more instructions than the log has
 pub all_within : (n : ℕ) (steps : List LogStep) → AreWithin (n + issued steps) (exchanges_after n steps)
 unfolding exchanges_after issued
 all_within n [] = tt
@@ -84,7 +84,7 @@ all_within n (Exchanged at ∷ steps) = (omega arith, all_within n steps)
 all_within n (ReadAt a ∷ steps) = all_within n steps
 all_within n (Wrote a w ∷ steps) = all_within n steps
 
--- no exchange of a log comes after more instructions than its count
+-- no exchange in a log comes after more instructions than the log's count
 pub log_within : (total : ℕ) (steps : List LogStep) (made : List (ℕ × ℕ)) → made ≡ exchanges_after 0 steps
     → total ≡ min (issued steps) (2 ^ 64 - 1) → issued steps < 2 ^ 64 → AreWithin total made
 log_within total steps made e t l =

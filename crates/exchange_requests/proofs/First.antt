@@ -1,4 +1,4 @@
--- The first of the requests.
+-- The first request of a list.
 use Rattle.std.proofs.Common.{◌≡◌, ℕ, ◌<◌, List, [], ◌∷◌, length, slice_index_or, sym, ap, arith}
 
 pub first_of : (asks : List (ℕ × ℕ)) (first : ℕ × ℕ) → 0 < length asks → first ≡ slice_index_or asks 0 first

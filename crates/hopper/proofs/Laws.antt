@@ -1,4 +1,4 @@
--- What a hopper answers and what it becomes.
+-- A hopper's answers, and the hopper after each call.
 use Rattle.std.proofs.Common.{◌≡◌, ◌≢◌, ◌<◌, ℕ, suc, Bool, true, false, cond, List, [], ◌∷◌, ◌++◌, Option}
 use Rattle.std.proofs.Common.{Some, None, refl, sym, ap, ◌∙◌, subst, get_or, set, take, drop, length, arith}
 use Rattle.std.specs.Prelude.{Err, Ok}

@@ -1,4 +1,4 @@
--- Which of the four places is free, and how many are taken: as many as there are that wait.
+-- Free places: which of the four is free, and that as many are taken as references wait.
 use Rattle.std.proofs.Common.{◌≡◌, ◌≢◌, ◌<◌, ◌≤◌, ◌+◌, ℕ, zero, suc, Bool, true, false, cond, List, [], ◌∷◌, Option}
 use Rattle.std.proofs.Common.{Some, None, refl, sym, ap, ◌∙◌, subst, eqb, length, arith}
 use Rattle.std.specs.Prelude.{◌||◌, is_none, MatchOption}
@@ -28,7 +28,7 @@ first_free f P (q ∷ ps) p h e = by_test (λ l. first_free f P ps p h.1 l) (f q
     by_test rest true k l = rest l
     by_test rest false k l = let d : q ≡ p = cc in (subst P d h.0, subst (λ x. f x ≡ false) d k)
 
--- it is one of the four, and nobody stands there
+-- it is one of the four places, and no reference waits there
 pub place_free : (es : List Entered) (p : ℕ) → place_for es ≡ Some p → (p < 4) × Each (λ e. e.place ≢ p) es
 unfolding place_for free_place is_taken stands_at
 place_free es p h =
@@ -44,12 +44,12 @@ free_first : (f : ℕ → Bool) (p : ℕ) (ps : List ℕ) → f p ≡ false → 
 unfolding first_place
 free_first f p ps h = ap (λ b. cond b (first_place f ps) (Some p)) h
 
--- what a search of the four places found, or that it found none
+-- the result of a search through the four places, or that none is free
 abbrev pub FindsFree : (ℕ → Bool) → Option ℕ → Type 0
 FindsFree f r = MatchOption r ((k : ℕ) → 0 ≤ k → k < 4 → f k ≡ true)
     (λ p. (0 ≤ p) × (p < 4) × (f p ≡ false) × ((k : ℕ) → 0 ≤ k → k < p → f k ≡ true))
 
--- the place that a search found is the lowest-numbered free one
+-- the search finds the lowest-numbered free place
 pub found_is : (f : ℕ → Bool) (r : Option ℕ) → FindsFree f r → r ≡ free_place f
 unfolding free_place first_place
 found_is f None h = sym
@@ -71,7 +71,7 @@ found_is f (Some (suc (suc (suc (suc n))))) h = absurd (omega (arith, h.1))
 
 -- ---- how many are taken ----
 
--- 1 for a place that is taken, 0 for a free one
+-- 1 for a taken place, 0 for a free one
 abbrev one : Bool → ℕ
 one b = cond b 1 0
 
@@ -79,7 +79,7 @@ one_at_most : (b : Bool) → one b ≤ 1
 one_at_most true = omega arith
 one_at_most false = omega arith
 
--- how many of the four places are taken
+-- the number of taken places
 abbrev taken_places : (ℕ → Bool) → ℕ
 taken_places f = one (f 0) + one (f 1) + one (f 2) + one (f 3)
 
@@ -90,7 +90,7 @@ one_more (suc (suc zero)) f h e = let k : one (f 2) ≡ 0 = ap one e in omega (a
 one_more (suc (suc (suc zero))) f h e = let k : one (f 3) ≡ 0 = ap one e in omega (arith, k)
 one_more (suc (suc (suc (suc n)))) f h e = absurd (omega (arith, h))
 
--- each that waits takes one
+-- each waiting reference takes one place
 taken_counted : (es : List Entered) → Each (λ e. e.place < 4) es → Pairs (λ d e. d.place ≢ e.place) es
     → taken_places (is_taken es) ≡ length es
 unfolding is_taken stands_at
@@ -114,7 +114,7 @@ none_free false b c d =
     let h = one_at_most b in let k = one_at_most c in let l = one_at_most d in
     sym (ne_eqb (one false + one b + one c + one d) 4 (λ e. omega (arith, h, k, l, e)))
 
--- all places are taken where four wait
+-- if four references wait, all places are taken
 pub full_is : (es : List Entered) → Each (λ e. e.place < 4) es → Pairs (λ d e. d.place ≢ e.place) es
     → is_none (place_for es) ≡ eqb (length es) 4
 unfolding place_for free_place first_place
@@ -122,7 +122,7 @@ full_is es h d =
     none_free (is_taken es 0) (is_taken es 1) (is_taken es 2) (is_taken es 3)
     ∙ ap (λ n. eqb n 4) (taken_counted es h d)
 
--- and where a place is free there is room for one more
+-- if a place is free, there is room for one more reference
 pub room_for_one : (es : List Entered) (p : ℕ) → Each (λ e. e.place < 4) es → Pairs (λ d e. d.place ≢ e.place) es
     → place_for es ≡ Some p → length es < 4
 room_for_one es p h d e =

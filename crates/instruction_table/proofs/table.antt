@@ -1,4 +1,4 @@
--- What is read at a position is what the table says.
+-- Decoding at a position agrees with the table.
 pub mod DecodingLaws
 pub mod Refusals
 pub mod RoundTrip

@@ -1,4 +1,4 @@
--- Each instruction has one text, and is read from it alone.
+-- Each instruction has exactly one text.
 pub mod OctalLaws
 pub mod ReadingLaws
 pub mod FieldLaws

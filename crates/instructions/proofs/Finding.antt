@@ -1,10 +1,10 @@
--- Who is found in a list.
+-- Searching a list.
 use Rattle.std.proofs.Common.{◌≡◌, List, [], ◌∷◌, ◌++◌, Option, Some, None, refl, ap, ◌∙◌, subst}
 use Rattle.std.proofs.lemmas.Option.{same_Some}
 use Rattle.instructions.specs.Each.{Each}
 use Rattle.instructions.specs.Finding.{Found, found_further, found_here, seek, put_back, replaced}
 
--- what was found is one of the list, the answer is about it, and none before it answers
+-- the found element is in the list, the answer is about it, and no earlier element answers
 abbrev pub Splits : {M K : Type 0} → (M → Option K) → List M → Found M K → Type 0
 Splits f ms x = (ms ≡ x.earlier ++ x.item ∷ x.later) × (f x.item ≡ Some x.answer) × Each (λ e. f e ≡ None) x.earlier
 
@@ -21,7 +21,7 @@ seek_splits {M} {K} f (m ∷ ms) x h = here (seek_splits f ms) (f m) refl (seek 
         let p = ih y er in
         subst (Splits f (m ∷ ms)) (same_Some _ x k) (ap (λ l. m ∷ l) p.0, p.1, (e, p.2))
 
--- one is found where none before it answers
+-- the search finds an element if no earlier element answers
 pub seek_around : {M K : Type 0} (f : M → Option K) (es : List M) (m : M) (x : K) (ls : List M)
     → Each (λ e. f e ≡ None) es → f m ≡ Some x
     → seek f (es ++ m ∷ ls) ≡ Some (record { earlier = es; item = m; answer = x; later = ls })
@@ -35,7 +35,7 @@ unfolding seek found_here found_further
 seek_nobody f [] h = refl
 seek_nobody f (m ∷ ms) h = ap (λ o. found_here o m ms (seek f ms)) h.0 ∙ ap (found_further m) (seek_nobody f ms h.1)
 
--- others stand in its position
+-- replacing the found element by others
 pub replaced_around : {M K : Type 0} (f : M → Option K) (g : M → List M) (es : List M) (m : M) (x : K) (ls : List M)
     → Each (λ e. f e ≡ None) es → f m ≡ Some x → replaced (seek f (es ++ m ∷ ls)) (es ++ m ∷ ls) g ≡ es ++ (g m ++ ls)
 unfolding replaced put_back

@@ -1,5 +1,5 @@
--- Tests over lists, when lists are joined.
-use Rattle.std.proofs.Common.{◌≡◌, Bool, true, false, List, [], ◌∷◌, ◌++◌, refl, ap, ◌∙◌}
+-- Tests over joined lists.
+use Rattle.std.proofs.Common.{◌≡◌, Bool, true, false, List, [], ◌∷◌, ◌++◌, refl, ap, ◌∙◌, arith}
 use Rattle.std.specs.Prelude.{◌||◌}
 use Rattle.std.proofs.lemmas.Bool.{or_parts, or_from}
 use Rattle.std.specs.List.{list_any}
@@ -23,7 +23,7 @@ pub any_right : {X : Type 0} (f : X → Bool) (xs ys : List X) → list_any f (x
 any_right f [] ys h = h
 any_right f (x ∷ xs) ys h = any_right f xs ys (or_parts (f x) (list_any f (xs ++ ys)) h).1
 
--- a test that fails at all gives each
+-- if a test fails everywhere, the property holds for each element
 pub each_of_any : {X : Type 0} (f : X → Bool) (P : X → Type 0) → ((x : X) → f x ≡ false → P x) → (xs : List X)
     → list_any f xs ≡ false → Each P xs
 each_of_any f P step [] h = tt
@@ -57,7 +57,7 @@ pub each_append : {X : Type 0} (P : X → Type 0) (xs ys : List X) → Each P xs
 each_append P [] ys h k = k
 each_append P (x ∷ xs) ys h k = (h.0, each_append P xs ys h.1 k)
 
--- each element before a position has the relation to the one there
+-- each element before a position is related to the element there
 pub pairs_before : {X : Type 0} (R : X → X → Type 0) (xs : List X) (y : X) (ys : List X) → Pairs R (xs ++ y ∷ ys)
     → Each (λ x. R x y) xs
 pairs_before R [] y ys h = tt
@@ -67,7 +67,7 @@ pub pairs_right : {X : Type 0} (R : X → X → Type 0) (xs ys : List X) → Pai
 pairs_right R [] ys h = h
 pairs_right R (x ∷ xs) ys h = pairs_right R xs ys h.1
 
--- an element taken out
+-- the list without an element
 pub pairs_without : {X : Type 0} (R : X → X → Type 0) (xs : List X) (y : X) (ys : List X) → Pairs R (xs ++ y ∷ ys)
     → Pairs R (xs ++ ys)
 pairs_without R [] y ys h = h.1
@@ -76,7 +76,7 @@ pairs_without R (x ∷ xs) y ys h = (
   pairs_without R xs y ys h.1,
 )
 
--- an element put for another
+-- the list with one element replaced
 pub pairs_with : {X : Type 0} (R : X → X → Type 0) (xs : List X) (y z : X) (ys : List X) → Pairs R (xs ++ y ∷ ys)
     → Each (λ x. R x z) xs → ((x : X) → R y x → R z x) → Pairs R (xs ++ z ∷ ys)
 pairs_with R [] y z ys h k step = (each_map (R y) (R z) step ys h.0, h.1)
@@ -85,14 +85,11 @@ pairs_with R (x ∷ xs) y z ys h k step = (
   pairs_with R xs y z ys h.1 k.1 step,
 )
 
--- one more at the end
+-- the list with one more element
 pub pairs_insert : {X : Type 0} (R : X → X → Type 0) (xs : List X) (y : X) (ys : List X) → Pairs R (xs ++ ys)
     → Each (λ x. R x y) xs → Each (R y) ys → Pairs R (xs ++ y ∷ ys)
 pairs_insert R [] y ys h k l = (l, h)
-pairs_insert R (x ∷ xs) y ys h k l = (
-  each_append (R x) xs (y ∷ ys) (each_left (R x) xs ys h.0) (k.0, each_right (R x) xs ys h.0),
-  pairs_insert R xs y ys h.1 k.1 l,
-)
+pairs_insert R (x ∷ xs) y ys h k l = grind (arith, pairs_insert R xs y ys h.1 k.1 l, each_append, each_left, each_right)
 
 pub pairs_push : {X : Type 0} (R : X → X → Type 0) (xs : List X) (y : X) → Pairs R xs → Each (λ x. R x y) xs
     → Pairs R (xs ++ y ∷ [])

@@ -1,4 +1,4 @@
--- Which references there are, by what they do to memory.
+-- Which references exist, by their effect on memory.
 use Rattle.std.proofs.Common.{◌≡◌, Bool, true, false, refl}
 use Rattle.std.specs.Prelude.{Option, Some, None, is_some}
 use Rattle.instructions.specs.declared.shape.MemoryUse.{MemoryUse}
@@ -13,7 +13,7 @@ reference_used (Stores n) = refl
 reference_used Jumps = refl
 reference_used Links = refl
 
--- the use writes a word
+-- whether the use writes a word
 abbrev pub writes : Option MemoryUse → Bool
 writes None = false
 writes (Some (memory.Loads n)) = false

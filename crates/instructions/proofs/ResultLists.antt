@@ -1,6 +1,6 @@
--- What an instruction sets, by its shape and by its row.
-use Rattle.std.proofs.Common.{◌≡◌, ◌∙◌, ◌++◌, ◌∷◌, [], ℕ, Bool, true, false, List, cond, eqb, nat_le, ap, refl, sym}
-use Rattle.std.proofs.lemmas.Bool.{eqb-true}
+-- The registers that an instruction sets, by its shape and by its row.
+use Rattle.std.proofs.Common.{arith}
+use Rattle.std.proofs.Common.{◌≡◌, ◌∙◌, ◌++◌, ◌∷◌, [], ℕ, Bool, true, false, List, cond, eqb, ap, refl, sym}
 use Rattle.std.specs.Prelude.{Option, Some, None, option_to_list}
 use Rattle.instructions.specs.declared.instr.Addends.TheVariants.{Address, Registers}
 use Rattle.instructions.specs.declared.instr.Instr.{Instr}
@@ -8,27 +8,17 @@ use Rattle.instructions.specs.declared.instr.Instr.TheVariants.{Stop, ReturnJump
 use Rattle.instructions.specs.declared.instr.Instr.TheVariants.{Invert, ShiftBy, ShiftNominal, LongAdd, Mask, Pass}
 use Rattle.instructions.specs.declared.instr.Instr.TheVariants.{CountOnes, Increment}
 use Rattle.instructions.specs.declared.instr.Reg.{Reg}
-use Rattle.instructions.specs.declared.instr.Reg.TheVariants.{A, B, X}
+use Rattle.instructions.specs.declared.instr.Reg.TheVariants.{A, B}
 use Rattle.instructions.specs.declared.instr.Target.TheVariants.{A as TargetA, B as TargetB, X as TargetX}
 use Rattle.instructions.specs.Operands.{uses, set_by, by_reference}
 use Rattle.instructions.specs.Shape.{Shape, Sets, Loads, Stores, shape_of, sets_of, loads_of, results}
 
--- an SA0 to SA7
+-- the instructions SA0 to SA7
 a_results : (i : ℕ) → results (by_reference i (Sets (A 0 ∷ [])) (Loads i) (Stores i)) ≡ set_by TargetA i
 unfolding results sets_of loads_of
-a_results i = by_zero (eqb i 0) refl
-  where
-    by_five : (b : Bool) → results (cond b (Loads i) (Stores i)) ≡ A i ∷ cond b (X i ∷ []) []
-    by_five true = refl
-    by_five false = refl
+a_results i = grind arith
 
-    by_zero : (b : Bool) → eqb i 0 ≡ b
-        → results (cond b (Sets (A 0 ∷ [])) (cond (nat_le i 5) (Loads i) (Stores i)))
-        ≡ A i ∷ cond b [] (cond (nat_le i 5) (X i ∷ []) [])
-    by_zero true e = ap (λ n. A n ∷ []) (sym (eqb-true i 0 e))
-    by_zero false e = by_five (nat_le i 5)
-
--- an SB0 to SB7
+-- the instructions SB0 to SB7
 b_results : (i : ℕ) (b : Bool) → cond b [] (B i ∷ []) ++ [] ≡ cond b [] (B i ∷ [])
 b_results i true = refl
 b_results i false = refl
@@ -56,7 +46,7 @@ results_used (Increment TargetB i (Registers pair j k)) = b_results i (eqb i 0)
 results_used (Increment TargetX i (Address base j K)) = refl
 results_used (Increment TargetX i (Registers pair j k)) = refl
 
--- what is set at the store event, and then what a load sets at its return
+-- the registers set at the store event, followed by the register that a load sets at its return
 pub both_listed : (shape : Shape) (s l : Option Reg) (rs : List Reg) → sets_of shape ≡ option_to_list s
     → loads_of shape ≡ option_to_list l → rs ≡ option_to_list s ++ option_to_list l → rs ≡ results shape
 unfolding results

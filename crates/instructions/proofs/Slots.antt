@@ -1,5 +1,5 @@
--- What is kept in slots (units, hopper places and channels as one list): each stands in its own; seen in order, one is
--- taken out, one put in, one found.
+-- Items kept in slots (units, hopper places and channels as one list): each is in its own slot. In order of their
+-- numbers, one item is removed, added or found.
 use Rattle.std.proofs.Common.{◌≡◌, ◌≢◌, ℕ, zero, suc, ◌<◌, ◌≤◌, ◌+◌, List, [], ◌∷◌, ◌++◌, Option, Some}
 use Rattle.std.proofs.Common.{None, refl, sym, ap, ◌∙◌, subst, length, set, get_or, arith}
 use Rattle.std.proofs.lemmas.List.{set-get_or}
@@ -17,18 +17,18 @@ within [] i x h = cc
 within (o ∷ os) zero x h = omega arith
 within (o ∷ os) (suc i) x h = let k : i < length os = within os i x h in omega arith
 
--- what was read from a slot, whatever is read after the last
+-- the content of a slot, whatever default a read beyond the last slot gives
 pub slot_any : {K : Type 0} (os : List (Option K)) (i : ℕ) (o : Option K) → i < length os
     → get_or os i None ≡ get_or os i o
 slot_any [] i o h = absurd (omega arith)
 slot_any (x ∷ os) zero o h = refl
 slot_any (x ∷ os) (suc i) o h = slot_any os i o (omega arith)
 
--- no two have one number
+-- no two items have the same number
 abbrev pub HasOwnKeys : {K : Type 0} → (K → ℕ) → List K → Type 0
 HasOwnKeys key xs = Pairs (λ a b. key a ≢ key b) xs
 
--- the others, once it is taken out
+-- the other items, after one is removed
 pub others_differ : {K : Type 0} (key : K → ℕ) (os : List (Option K)) (i : ℕ) (m : K) → get_or os i None ≡ Some m
     → HasOwnKeys key (somes os) → Each (λ x. key x ≢ key m) (somes (set os i None))
 others_differ key os i m h own =
@@ -50,15 +50,19 @@ pub own_put : {K : Type 0} (key : K → ℕ) (os : List (Option K)) (i : ℕ) (m
     → i < length os → Each (λ x. key x ≢ key m) (somes os) → HasOwnKeys key (somes os)
     → HasOwnKeys key (somes (set os i (Some m)))
 own_put key os i m h l d own =
-    let e = somes-empty os i h l in
-    let dd = subst (Each (λ x. key x ≢ key m)) e d in
-    subst (HasOwnKeys key) (sym (somes-set_some os i m l))
-    (pairs_insert (λ a b. key a ≢ key b) (before_place os i) m (after_place os i) (subst (HasOwnKeys key) e own)
-    (each_left (λ x. key x ≢ key m) (before_place os i) (after_place os i) dd)
-    (each_map (λ x. key x ≢ key m) (λ x. key m ≢ key x) (λ x k. λ i. k (sym i)) (after_place os i)
-    (each_right (λ x. key x ≢ key m) (before_place os i) (after_place os i) dd)))
+    grind (
+      arith,
+      somes-empty,
+      somes-set_some,
+      pairs_insert,
+      before_place,
+      after_place,
+      each_left,
+      each_map,
+      each_right,
+    )
 
--- one taken out of its slot
+-- removing an item from its slot
 pub sort_take : {K : Type 0} (key : K → ℕ) (os : List (Option K)) (i : ℕ) (m : K) → get_or os i None ≡ Some m
     → HasOwnKeys key (somes os) → sort_by key (somes os) ≡ insert_by key m (sort_by key (somes (set os i None)))
 sort_take key os i m h own =
@@ -68,7 +72,7 @@ sort_take key os i m h own =
     (subst (HasOwnKeys key) (somes-at os i m h) own))
     ∙ ap (λ l. insert_by key m (sort_by key l)) (sym (somes-set_none os i (within os i m h)))
 
--- one put into an empty slot
+-- putting an item into an empty slot
 pub sort_put : {K : Type 0} (key : K → ℕ) (os : List (Option K)) (i : ℕ) (m : K) → get_or os i None ≡ None
     → i < length os → Each (λ x. key x ≢ key m) (somes os)
     → sort_by key (somes (set os i (Some m))) ≡ insert_by key m (sort_by key (somes os))
@@ -79,7 +83,7 @@ sort_put key os i m h l d =
     (each_left (λ x. key x ≢ key m) (before_place os i) (after_place os i) (subst (Each (λ x. key x ≢ key m)) e d))
     ∙ ap (λ q. insert_by key m (sort_by key q)) (sym e)
 
--- the list in order with it, and without it
+-- the ordered list with the item and without it
 pub taken_with : {K : Type 0} (key : K → ℕ) (os : List (Option K)) (i : ℕ) (m : K) → get_or os i None ≡ Some m
     → HasOwnKeys key (somes os) → sort_by key (somes os) ≡ below key (key m) (sort_by key (somes (set os i None))) ++ m
     ∷ above key (key m) (sort_by key (somes (set os i None)))
@@ -90,7 +94,7 @@ pub taken_without : {K : Type 0} (key : K → ℕ) (n : ℕ) (os : List (Option 
     ++ above key n (sort_by key (somes (set os i None)))
 taken_without key n os i = below-above key n (sort_by key (somes (set os i None)))
 
--- taken out of one slot, and put back into another under its number
+-- moving an item from one slot to another, under the same number
 pub moved_with : {K : Type 0} (key : K → ℕ) (os : List (Option K)) (i j : ℕ) (m m' : K) → get_or os i None ≡ Some m
     → key m' ≡ key m → get_or (set os i None) j None ≡ None → j < length (set os i None) → HasOwnKeys key (somes os)
     → sort_by key (somes (set (set os i None) j (Some m'))) ≡ below key (key m) (sort_by key (somes (set os i None)))
@@ -103,13 +107,11 @@ moved_with key os i j m m' h e f l own =
     ∙ ap (λ n. below key n (sort_by key (somes (set os i None))) ++ m'
     ∷ above key n (sort_by key (somes (set os i None)))) e
 
--- a new one, with a number above all, goes to the end
+-- an item with a number above all others goes to the end
 pub sort_new : {K : Type 0} (key : K → ℕ) (os : List (Option K)) (i : ℕ) (m : K) → get_or os i None ≡ None
     → i < length os → Each (λ x. key x < key m) (somes os)
     → sort_by key (somes (set os i (Some m))) ≡ sort_by key (somes os) ++ m ∷ []
-sort_new key os i m h l d =
-    sort_put key os i m h l (each_map (λ x. key x < key m) (λ x. key x ≢ key m) (λ x k. omega arith) (somes os) d)
-    ∙ insert_last key m (sort_by key (somes os)) (sort_each key (λ x. key x < key m) (somes os) d)
+sort_new key os i m h l d = grind (arith, sort_put, each_map, insert_last, sort_each)
 
 -- ---- each in its own slot ----
 
@@ -121,7 +123,7 @@ in_slots_from slot_of (None ∷ os) k v h s = in_slots_from slot_of os (suc k) v
 in_slots_from slot_of (Some x ∷ os) k v h s =
     (λ e. let q : slot_of x ≡ k = s.0 in omega (arith, e, q, h), in_slots_from slot_of os (suc k) v (omega arith) s.1)
 
--- no other stands there
+-- no other item is in that slot
 pub in_slots_others : {K : Type 0} (slot_of : K → ℕ) (os : List (Option K)) (k i v : ℕ) → v ≡ k + i
     → IsInSlots slot_of k os → Each (λ y. slot_of y ≢ v) (somes (set os i None))
 unfolding somes
@@ -134,7 +136,7 @@ in_slots_others slot_of (Some x ∷ os) k (suc i) v e s = (
   in_slots_others slot_of os (suc k) i v (omega (arith, e)) s.1,
 )
 
--- and nobody at all where it is empty
+-- no item is in an empty slot
 pub in_slots_nobody : {K : Type 0} (slot_of : K → ℕ) (os : List (Option K)) (i : ℕ) → get_or os i None ≡ None
     → IsInSlots slot_of 0 os → Each (λ y. slot_of y ≢ i) (somes os)
 in_slots_nobody slot_of os i h s =
@@ -166,7 +168,7 @@ in_slots_fill slot_of (Some x ∷ os) k zero y e s = (e ∙ omega arith, s.1)
 in_slots_fill slot_of (None ∷ os) k (suc i) y e s = in_slots_fill slot_of os (suc k) i y (e ∙ omega arith) s
 in_slots_fill slot_of (Some x ∷ os) k (suc i) y e s = (s.0, in_slots_fill slot_of os (suc k) i y (e ∙ omega arith) s.1)
 
--- a slot in which none of them stands is empty
+-- a slot that none of the items has is empty
 pub slot_empty : {K : Type 0} (slot_of : K → ℕ) (os : List (Option K)) (k i v : ℕ) → v ≡ k + i → IsInSlots slot_of k os
     → Each (λ y. slot_of y ≢ v) (somes os) → get_or os i None ≡ None
 unfolding somes
@@ -176,7 +178,7 @@ slot_empty slot_of (Some x ∷ os) k zero v e s h = absurd (h.0 (let q : slot_of
 slot_empty slot_of (None ∷ os) k (suc i) v e s h = slot_empty slot_of os (suc k) i v (omega (arith, e)) s h
 slot_empty slot_of (Some x ∷ os) k (suc i) v e s h = slot_empty slot_of os (suc k) i v (omega (arith, e)) s.1 h.1
 
--- each slot has a number below how many there are
+-- each slot's number is below the number of slots
 pub slots_below : {K : Type 0} (slot_of : K → ℕ) (os : List (Option K)) (k n : ℕ) → k + length os ≤ n
     → IsInSlots slot_of k os → Each (λ y. slot_of y < n) (somes os)
 unfolding somes
@@ -187,7 +189,7 @@ slots_below slot_of (Some x ∷ os) k n h s =
 
 -- ---- the one in a slot, in order ----
 
--- those before it, and those after
+-- the items before a slot, and the items after it
 abbrev pub before_slot : {K : Type 0} → (K → ℕ) → List (Option K) → ℕ → K → List K
 before_slot key os i x = below key (key x) (sort_by key (somes (set os i None)))
 
@@ -216,15 +218,6 @@ found_nobody key f os s = seek_nobody f (sort_by key (somes os)) (sort_each key 
 
 -- ---- each, and how many, when a slot is filled or emptied ----
 
-pub each_put : {K : Type 0} (P : K → Type 0) (os : List (Option K)) (i : ℕ) (y : K) → get_or os i None ≡ None
-    → i < length os → P y → Each P (somes os) → Each P (somes (set os i (Some y)))
-unfolding somes
-each_put P [] i y h l p k = absurd (omega arith)
-each_put P (None ∷ os) zero y h l p k = (p, k)
-each_put P (Some x ∷ os) zero y h l p k = cc
-each_put P (None ∷ os) (suc i) y h l p k = each_put P os i y h (omega arith) p k
-each_put P (Some x ∷ os) (suc i) y h l p k = (k.0, each_put P os i y h (omega arith) p k.1)
-
 pub each_taken : {K : Type 0} (P : K → Type 0) (os : List (Option K)) (i : ℕ) → Each P (somes os)
     → Each P (somes (set os i None))
 unfolding somes
@@ -233,12 +226,3 @@ each_taken P (None ∷ os) zero k = k
 each_taken P (Some x ∷ os) zero k = k.1
 each_taken P (None ∷ os) (suc i) k = each_taken P os i k
 each_taken P (Some x ∷ os) (suc i) k = (k.0, each_taken P os i k.1)
-
-pub each_at : {K : Type 0} (P : K → Type 0) (os : List (Option K)) (i : ℕ) (y : K) → get_or os i None ≡ Some y
-    → Each P (somes os) → P y
-unfolding somes
-each_at P [] i y h k = cc
-each_at P (None ∷ os) zero y h k = cc
-each_at P (Some x ∷ os) zero y h k = let e : x ≡ y = cc in subst P e k.0
-each_at P (None ∷ os) (suc i) y h k = each_at P os i y h k
-each_at P (Some x ∷ os) (suc i) y h k = each_at P os i y h k.1

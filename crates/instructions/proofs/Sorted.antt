@@ -1,4 +1,4 @@
--- The list in order, when one position is read, changed or emptied.
+-- The ordered list, after one position is read, changed or emptied.
 use Rattle.std.proofs.Common.{◌≡◌, ◌≢◌, ℕ, zero, suc, ◌<◌, ◌≤◌, Bool, true, false, cond, List, [], ◌∷◌, ◌++◌, Option}
 use Rattle.std.proofs.Common.{Some, None, refl, ap, ◌∙◌, ltb, length, set, get_or, arith}
 use Rattle.std.specs.Prelude.{◌||◌, ◌&&◌}
@@ -10,30 +10,19 @@ use Rattle.instructions.proofs.Lists.{each_right, each_map}
 
 -- ---- tests ----
 
-or_exchange : (x y z : Bool) → (x || (y || z)) ≡ (y || (x || z))
-or_exchange true true z = refl
-or_exchange true false z = refl
-or_exchange false true z = refl
-or_exchange false false z = refl
-
 any_insert : {K : Type 0} (key : K → ℕ) (f : K → Bool) (x : K) (ys : List K)
     → list_any f (insert_by key x ys) ≡ (f x || list_any f ys)
 unfolding insert_by
 any_insert key f x [] = refl
-any_insert key f x (y ∷ ys) = by_test (ltb (key x) (key y)) (any_insert key f x ys)
-  where
-    by_test : (b : Bool) → list_any f (insert_by key x ys) ≡ (f x || list_any f ys)
-        → list_any f (cond b (x ∷ y ∷ ys) (y ∷ insert_by key x ys)) ≡ (f x || (f y || list_any f ys))
-    by_test true e = refl
-    by_test false e = ap (λ z. f y || z) e ∙ or_exchange (f y) (f x) (list_any f ys)
+any_insert key f x (y ∷ ys) = grind (arith, any_insert key f x ys)
 
--- a test over the list in order is a test over the positions
+-- a test over the ordered list is a test over the positions
 pub any_sort : {K : Type 0} (key : K → ℕ) (f : K → Bool) (xs : List K) → list_any f (sort_by key xs) ≡ list_any f xs
 unfolding sort_by
 any_sort key f [] = refl
 any_sort key f (x ∷ xs) = any_insert key f x (sort_by key xs) ∙ ap (λ z. f x || z) (any_sort key f xs)
 
--- each element is before the ones after it
+-- each element has a lower number than the elements after it
 abbrev pub IsIncreasing : {K : Type 0} → (K → ℕ) → List K → Type 0
 IsIncreasing key xs = Pairs (λ a b. key a < key b) xs
 
@@ -42,7 +31,7 @@ none_above : {K : Type 0} (key : K → ℕ) (f : K → Bool) (n : ℕ) (ls : Lis
 none_above key f n [] h = refl
 none_above key f n (x ∷ ls) h = or_from _ _ (ap (λ b. b && f x) (le-ltb (key x) n h.0)) (none_above key f n ls h.1)
 
--- a test over the earlier ones is a test over all with a lower number
+-- a test over the earlier elements is a test over all elements with a lower number
 pub any_earlier : {K : Type 0} (key : K → ℕ) (f : K → Bool) (es : List K) (m : K) (ls : List K)
     → IsIncreasing key (es ++ m ∷ ls) → list_any (λ x. ltb (key x) (key m) && f x) (es ++ m ∷ ls) ≡ list_any f es
 any_earlier key f [] m ls h =
@@ -55,7 +44,7 @@ any_earlier key f (e ∷ es) m ls h =
 
 -- ---- the list in order, around one element ----
 
--- the front of a list in order, up to a number, and what is after
+-- the front of an ordered list, up to a number, and the rest
 unfoldable pub below : {K : Type 0} → (K → ℕ) → ℕ → List K → List K
 below key n [] = []
 below key n (y ∷ ys) = cond (ltb n (key y)) [] (y ∷ below key n ys)
@@ -64,66 +53,26 @@ unfoldable pub above : {K : Type 0} → (K → ℕ) → ℕ → List K → List 
 above key n [] = []
 above key n (y ∷ ys) = cond (ltb n (key y)) (y ∷ ys) (above key n ys)
 
--- where it comes to stand
+-- the position at which an element is inserted
 pub insert_splits : {K : Type 0} (key : K → ℕ) (x : K) (ys : List K) → insert_by key x ys ≡ below key (key x) ys ++ x
     ∷ above key (key x) ys
 unfolding insert_by below above
 insert_splits key x [] = refl
-insert_splits key x (y ∷ ys) = by_test (ltb (key x) (key y)) (insert_splits key x ys)
-  where
-    by_test : (b : Bool) → insert_by key x ys ≡ below key (key x) ys ++ x ∷ above key (key x) ys
-        → cond b (x ∷ y ∷ ys) (y ∷ insert_by key x ys) ≡ cond b [] (y ∷ below key (key x) ys) ++ x
-        ∷ cond b (y ∷ ys) (above key (key x) ys)
-    by_test true e = refl
-    by_test false e = ap (λ l. y ∷ l) e
+insert_splits key x (y ∷ ys) = grind (arith, insert_splits key x ys)
 
 pub below-above : {K : Type 0} (key : K → ℕ) (n : ℕ) (ys : List K) → ys ≡ below key n ys ++ above key n ys
 unfolding below above
 below-above key n [] = refl
-below-above key n (y ∷ ys) = by_test (ltb n (key y)) (below-above key n ys)
-  where
-    by_test : (b : Bool) → ys ≡ below key n ys ++ above key n ys → y ∷ ys ≡ cond b [] (y ∷ below key n ys)
-        ++ cond b (y ∷ ys) (above key n ys)
-    by_test true e = refl
-    by_test false e = ap (λ l. y ∷ l) e
+below-above key n (y ∷ ys) = grind (arith, below-above key n ys)
 
--- two elements go in in either order
+-- the order in which two elements are inserted doesn't matter
 insert_comm : {K : Type 0} (key : K → ℕ) (x y : K) (zs : List K) → key x ≢ key y
     → insert_by key x (insert_by key y zs) ≡ insert_by key y (insert_by key x zs)
 unfolding insert_by
-insert_comm key x y [] ne = by_test (ltb (key x) (key y)) refl (ltb (key y) (key x)) refl
-  where
-    by_test : (b : Bool) → ltb (key x) (key y) ≡ b → (c : Bool) → ltb (key y) (key x) ≡ c
-        → cond b (x ∷ y ∷ []) (y ∷ x ∷ []) ≡ cond c (y ∷ x ∷ []) (x ∷ y ∷ [])
-    by_test true e false k = refl
-    by_test false e true k = refl
-    by_test true e true k = absurd (let a = ltb-true _ _ e in let b = ltb-true _ _ k in omega arith)
-    by_test false e false k = absurd (let a = ltb-false _ _ e in let b = ltb-false _ _ k in omega arith)
-insert_comm key x y (z ∷ zs) ne =
-    by_tests (insert_comm key x y zs ne) (ltb (key x) (key y)) refl (ltb (key y) (key x)) refl (ltb (key x) (key z))
-    refl (ltb (key y) (key z)) refl
-  where
-    by_tests : insert_by key x (insert_by key y zs) ≡ insert_by key y (insert_by key x zs) → (xy : Bool)
-        → ltb (key x) (key y) ≡ xy → (yx : Bool) → ltb (key y) (key x) ≡ yx → (xz : Bool) → ltb (key x) (key z) ≡ xz
-        → (yz : Bool) → ltb (key y) (key z) ≡ yz
-        → insert_by key x (cond yz (y ∷ z ∷ zs) (z ∷ insert_by key y zs))
-        ≡ insert_by key y (cond xz (x ∷ z ∷ zs) (z ∷ insert_by key x zs))
-    by_tests ih true exy true eyx xz exz yz eyz =
-        absurd (let a = ltb-true _ _ exy in let b = ltb-true _ _ eyx in omega arith)
-    by_tests ih false exy false eyx xz exz yz eyz =
-        absurd (let a = ltb-false _ _ exy in let b = ltb-false _ _ eyx in omega arith)
-    by_tests ih true exy false eyx true exz true eyz = rw (exy, eyx, eyz) refl
-    by_tests ih true exy false eyx true exz false eyz = rw (exz, eyx, eyz) refl
-    by_tests ih true exy false eyx false exz true eyz =
-        absurd (let a = ltb-true _ _ exy in let b = ltb-false _ _ exz in let c = ltb-true _ _ eyz in omega arith)
-    by_tests ih true exy false eyx false exz false eyz = rw (exz, eyz) (ap (λ l. z ∷ l) ih)
-    by_tests ih false exy true eyx true exz true eyz = rw (exy, eyx, exz) refl
-    by_tests ih false exy true eyx false exz true eyz = rw (exy, exz, eyz) refl
-    by_tests ih false exy true eyx true exz false eyz =
-        absurd (let a = ltb-true _ _ eyx in let b = ltb-false _ _ eyz in let c = ltb-true _ _ exz in omega arith)
-    by_tests ih false exy true eyx false exz false eyz = rw (exz, eyz) (ap (λ l. z ∷ l) ih)
+insert_comm key x y [] ne = grind arith
+insert_comm key x y (z ∷ zs) ne = grind (arith, insert_comm key x y zs ne)
 
--- the one among the positions goes in last
+-- an element among the positions can be inserted last
 pub sort_around : {K : Type 0} (key : K → ℕ) (fs : List K) (m : K) (bs : List K) → Each (λ a. key a ≢ key m) fs
     → sort_by key (fs ++ m ∷ bs) ≡ insert_by key m (sort_by key (fs ++ bs))
 unfolding sort_by
@@ -136,28 +85,19 @@ insert_each : {K : Type 0} (key : K → ℕ) (P : K → Type 0) (x : K) (ys : Li
     → Each P (insert_by key x ys)
 unfolding insert_by
 insert_each key P x [] p h = (p, tt)
-insert_each key P x (y ∷ ys) p h = by_test (ltb (key x) (key y)) (insert_each key P x ys p h.1)
-  where
-    by_test : (b : Bool) → Each P (insert_by key x ys) → Each P (cond b (x ∷ y ∷ ys) (y ∷ insert_by key x ys))
-    by_test true k = (p, h)
-    by_test false k = (h.0, k)
+insert_each key P x (y ∷ ys) p h = grind (arith, insert_each key P x ys p h.1)
 
 pub sort_each : {K : Type 0} (key : K → ℕ) (P : K → Type 0) (xs : List K) → Each P xs → Each P (sort_by key xs)
 unfolding sort_by
 sort_each key P [] h = tt
 sort_each key P (x ∷ xs) h = insert_each key P x (sort_by key xs) h.0 (sort_each key P xs h.1)
 
--- and what holds of each in order holds of each
+-- a property of the element and of each element of the list holds after the insertion
 each_inserted : {K : Type 0} (key : K → ℕ) (P : K → Type 0) (x : K) (ys : List K) → Each P (insert_by key x ys) → P x
     × Each P ys
 unfolding insert_by
 each_inserted key P x [] h = (h.0, tt)
-each_inserted key P x (y ∷ ys) h = by_test (each_inserted key P x ys) (ltb (key x) (key y)) h
-  where
-    by_test : (Each P (insert_by key x ys) → P x × Each P ys) → (b : Bool)
-        → Each P (cond b (x ∷ y ∷ ys) (y ∷ insert_by key x ys)) → P x × Each P (y ∷ ys)
-    by_test rest true k = (k.0, k.1)
-    by_test rest false k = let r = rest k.1 in (r.0, (k.0, r.1))
+each_inserted key P x (y ∷ ys) h = grind (arith, each_inserted key P x ys)
 
 pub each_sorted : {K : Type 0} (key : K → ℕ) (P : K → Type 0) (xs : List K) → Each P (sort_by key xs) → Each P xs
 unfolding sort_by
@@ -168,17 +108,8 @@ insert_increasing : {K : Type 0} (key : K → ℕ) (x : K) (ys : List K) → Eac
     → IsIncreasing key ys → IsIncreasing key (insert_by key x ys)
 unfolding insert_by
 insert_increasing key x [] ne h = (tt, tt)
-insert_increasing key x (y ∷ ys) ne h = by_test (ltb (key x) (key y)) refl (insert_increasing key x ys ne.1 h.1)
-  where
-    by_test : (b : Bool) → ltb (key x) (key y) ≡ b → IsIncreasing key (insert_by key x ys)
-        → IsIncreasing key (cond b (x ∷ y ∷ ys) (y ∷ insert_by key x ys))
-    by_test true e k =
-        let lt : key x < key y = ltb-true _ _ e in
-        ((lt, each_map (λ z. key y < key z) (λ z. key x < key z) (λ z i. omega arith) ys h.0), h)
-    by_test false e k =
-        let le : key y ≤ key x = ltb-false _ _ e in
-        let d : key x ≢ key y = ne.0 in
-        (insert_each key (λ z. key y < key z) x ys (omega arith) h.0, k)
+insert_increasing key x (y ∷ ys) ne h =
+    grind (arith, insert_increasing key x ys ne.1 h.1, each_map, insert_each, ltb-true, ltb-false)
 
 -- positions with different numbers make an increasing list
 pub sort_increasing : {K : Type 0} (key : K → ℕ) (xs : List K) → Pairs (λ a b. key a ≢ key b) xs
@@ -188,15 +119,12 @@ sort_increasing key [] h = tt
 sort_increasing key (x ∷ xs) h =
     insert_increasing key x (sort_by key xs) (sort_each key (λ y. key x ≢ key y) xs h.0) (sort_increasing key xs h.1)
 
--- a number above all goes to the end
+-- an element with a number above all others goes to the end
 pub insert_last : {K : Type 0} (key : K → ℕ) (x : K) (ys : List K) → Each (λ y. key y < key x) ys
     → insert_by key x ys ≡ ys ++ x ∷ []
 unfolding insert_by
 insert_last key x [] h = refl
-insert_last key x (y ∷ ys) h =
-    let lt : key y < key x = h.0 in
-    ap (λ b. cond b (x ∷ y ∷ ys) (y ∷ insert_by key x ys)) (le-ltb (key x) (key y) (omega arith))
-    ∙ ap (λ l. y ∷ l) (insert_last key x ys h.1)
+insert_last key x (y ∷ ys) h = grind (arith, insert_last key x ys h.1)
 
 -- ---- a list of positions ----
 
@@ -208,7 +136,7 @@ any_somes f g none some (None ∷ os) = ap (λ b. b || list_any g os) none ∙ a
 any_somes f g none some (Some x ∷ os) =
     ap (λ b. b || list_any g os) (some x) ∙ ap (λ z. f x || z) (any_somes f g none some os)
 
--- what stands around a position
+-- the elements before and after a position
 unfoldable pub before_place : {K : Type 0} → List (Option K) → ℕ → List K
 before_place [] i = []
 before_place (o ∷ os) zero = []
@@ -221,7 +149,7 @@ after_place (o ∷ os) zero = somes os
 after_place (None ∷ os) (suc i) = after_place os i
 after_place (Some x ∷ os) (suc i) = after_place os i
 
--- a position that is filled, whatever it held
+-- filling a position, whatever it held
 pub somes-set_some : {K : Type 0} (os : List (Option K)) (i : ℕ) (y : K) → i < length os
     → somes (set os i (Some y)) ≡ before_place os i ++ y ∷ after_place os i
 unfolding somes before_place after_place
@@ -231,7 +159,7 @@ somes-set_some (Some x ∷ os) zero y h = refl
 somes-set_some (None ∷ os) (suc i) y h = somes-set_some os i y (omega arith)
 somes-set_some (Some x ∷ os) (suc i) y h = ap (λ l. x ∷ l) (somes-set_some os i y (omega arith))
 
--- a position that is emptied
+-- emptying a position
 pub somes-set_none : {K : Type 0} (os : List (Option K)) (i : ℕ) → i < length os
     → somes (set os i None) ≡ before_place os i ++ after_place os i
 unfolding somes before_place after_place
@@ -241,7 +169,7 @@ somes-set_none (Some x ∷ os) zero h = refl
 somes-set_none (None ∷ os) (suc i) h = somes-set_none os i (omega arith)
 somes-set_none (Some x ∷ os) (suc i) h = ap (λ l. x ∷ l) (somes-set_none os i (omega arith))
 
--- a position that holds something
+-- a filled position
 pub somes-at : {K : Type 0} (os : List (Option K)) (i : ℕ) (x : K) → get_or os i None ≡ Some x
     → somes os ≡ before_place os i ++ x ∷ after_place os i
 unfolding somes before_place after_place
@@ -251,7 +179,7 @@ somes-at (Some y ∷ os) zero x h = let e : y ≡ x = cc in ap (λ z. z ∷ some
 somes-at (None ∷ os) (suc i) x h = somes-at os i x h
 somes-at (Some y ∷ os) (suc i) x h = ap (λ l. y ∷ l) (somes-at os i x h)
 
--- a position that holds nothing
+-- an empty position
 pub somes-empty : {K : Type 0} (os : List (Option K)) (i : ℕ) → get_or os i None ≡ None → i < length os
     → somes os ≡ before_place os i ++ after_place os i
 unfolding somes before_place after_place

@@ -1,4 +1,4 @@
--- Texts that are printed or read piece by piece.
+-- Texts that are printed or read in pieces.
 pub mod Ranges
 pub mod Listings
 pub mod Refused

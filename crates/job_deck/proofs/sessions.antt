@@ -1,4 +1,4 @@
--- What a schedule says, how far a session has come, how it ends, and what is answered where none begins.
+-- What a schedule says, how far a session has come, how it ends, and its answers if none begins.
 pub mod Speaking
 pub mod ScheduleLines
 pub mod Sessions

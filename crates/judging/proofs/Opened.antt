@@ -5,7 +5,7 @@ use Rattle.in_flight.specs.Tests.{nothing, refusal_of, tests_found}
 use Rattle.program_order.specs.Issue.{fetch_waits, waits_at}
 use Rattle.program_order.specs.Units.{finish_tests}
 
--- when a fetch waits
+-- the condition under which a fetch waits
 unfoldable pub waiting_fetch : Unit {0}
 unfolding fetch_waits waits_at bounds_of absolute
 waiting_fetch = tt

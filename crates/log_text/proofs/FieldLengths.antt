@@ -40,7 +40,7 @@ word_long digits h =
     unless (has_leading_zero digits) (from_octal 20 digits)
     (many_digits _ (nat_le (length digits) 20) _ _ (too_many (length digits) 20 h))
 
--- a written word of more bytes than an address and a word have
+-- no entry writes a word if its field is longer than an address and a word
 write_no_word : (left : Allowance) (a : Option ℕ) → write_in left a None ≡ None
 write_no_word left None = refl
 write_no_word left (Some n) = refl
@@ -63,7 +63,7 @@ written_long left (a ∷ w ∷ []) h =
     long_parts left a w (six_or_twenty (length a) (length w) (omega (arith, h, length-append a (61 ∷ w))))
 written_long left (a ∷ w ∷ other ∷ more) h = refl
 
--- a field of more than 28 bytes is no entry
+-- a field longer than 28 bytes is no entry
 pub entry_long : (left : Allowance) (field : List ℕ) → 28 < length field → entry_in left field ≡ None
 entry_long left [] h = refl
 entry_long left (letter ∷ digits) h =
@@ -119,7 +119,7 @@ none_steps left n (field ∷ more) l h =
     ap (option_and_then (λ entry. put_steps (steps_of (entry ∷ [])) (steps_in (spent left entry) more)))
     (entry_long left field (omega (arith, l, h)))
 
--- a text whose first field has more than 28 bytes has no steps
+-- a text whose first field is longer than 28 bytes has no steps
 pub steps_long : (left : Allowance) (text more : List ℕ) → All (λ b. b ≢ 32) text → 28 < length text
     → steps_in left (fields_of (text ++ more)) ≡ None
 steps_long left text more h l =

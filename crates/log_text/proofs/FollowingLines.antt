@@ -1,4 +1,4 @@
--- The line of a log that is read field by field: its steps, and what is left unread.
+-- The line of a log that is read field by field: its steps, and the bytes left unread.
 use Rattle.std.proofs.Common.{◌≡◌, ◌≢◌, ℕ, ◌<◌, Bool, true, false, cond, eqb, List, [], ◌∷◌, ◌++◌, length, All}
 use Rattle.std.proofs.Common.{Option, Some, None, refl, sym, ap, ◌∙◌, subst, arith, ◌⊎◌, inl, inr, append_assoc}
 use Rattle.std.proofs.Common.{append-nil, length-append}
@@ -26,7 +26,7 @@ use Rattle.log_text.specs.declared.logs.Allowance.{Allowance}
 use Rattle.log_text.proofs.FieldLengths.{entry_long, steps_long}
 use Rattle.log_text.proofs.LogReading.{before_none, field_on}
 
--- the line that is read: its bytes at this field, how far its steps are known, and the bytes before the field
+-- the progress in the line: its bytes from this field on, its steps so far, and the bytes before the field
 pub record IsReadTo (after : List ℕ) (steps : List LogStep) (left : Allowance) (end : FieldEnd) (text ys : List ℕ)
     : Type 0 where
   pub now : List ℕ
@@ -241,7 +241,7 @@ reads_none Line log text after ys h l n t =
     reads_steps after ys log (none_line text after ys h.0 n t ∙ ap Some (sym l))
     (last_taken after text after ys h.0 (none_not_empty text n) t ([], no_bytes, refl))
 
--- a line that has other fields, or a longer field, isn't `none`
+-- a line with a second field, or with a longer field, isn't `none`
 two_fields : (text more : List ℕ) → All (λ b. b ≢ 32) text → text ++ 32 ∷ more ≡ codes "none" → ⊥
 two_fields text more h e =
     let fields = sym (ap length (more_fields text more h)) ∙ ap (λ l. length (fields_of l)) e in
@@ -274,7 +274,7 @@ reads_found end found text after ys zs h n t f =
 
 -- ---- the bytes of an input ----
 
--- the bytes left after the first field were xs, and are ys after this field
+-- before this field the bytes xs were left, after it the bytes ys
 abbrev pub ReadsOn : FieldEnd → List ℕ → List LogStep → Allowance → FieldEnd → List ℕ → List ℕ → List ℕ → Type 0
 ReadsOn first start steps left end text xs ys =
     (after : List ℕ) → FieldTaken first start after xs → IsReadTo after steps left end text ys

@@ -1,4 +1,4 @@
--- The steps of a log's text, one entry after another.
+-- The steps in a log's text, entry by entry.
 use Rattle.std.proofs.Common.{◌≡◌, ℕ, ◌+◌, ◌≤◌, ◌<◌, ◌==◌, ◌||◌, Bool, true, false, cond, eqb, ltb, subst, List, []}
 use Rattle.std.proofs.Common.{◌∷◌, ◌++◌, Option, Some, None}
 use Rattle.std.proofs.Common.{Result, Ok, Err, refl}
@@ -26,7 +26,7 @@ put_twice : (before more : List LogStep) (found : Option (List LogStep))
 put_twice before more None = refl
 put_twice before more (Some steps) = ap Some (sym (append_assoc before more steps))
 
--- an entry that may come goes after the steps before
+-- an allowed entry extends the steps before it
 entry_on : (before now : List LogStep) (left : Allowance) (field : List ℕ) (entry : Entry) (more : List (List ℕ))
     → entry_in left field ≡ Some entry → now ≡ before ++ steps_of (entry ∷ [])
     → put_steps before (steps_in left (field ∷ more)) ≡ put_steps now (steps_in (spent left entry) more)
@@ -36,7 +36,7 @@ entry_on before now left field entry more found same =
     ∙ put_twice before (steps_of (entry ∷ [])) (steps_in (spent left entry) more)
     ∙ ap (λ steps. put_steps steps (steps_in (spent left entry) more)) (sym same)
 
--- a field that was added goes after the steps before
+-- an added field extends the steps before it
 pub field_on : (before now : List LogStep) (left more : Allowance) (field : List ℕ) (fields : List (List ℕ))
     → AddsField (Some more) left field before now
     → put_steps before (steps_in left (field ∷ fields)) ≡ put_steps now (steps_in more fields)
@@ -128,7 +128,7 @@ entry_issued (PpRead a) = refl
 entry_issued (PpWrite a w) = refl
 entry_issued (Count n) = ap issued (append-nil (replicate n Issued)) ∙ issued-replicate n
 
--- the instructions so far and those that may still come
+-- the instruction count so far, and the allowance that is left
 pub count_on : (before now : List LogStep) (left : Allowance) (entry : Entry) → now ≡ before ++ steps_of (entry ∷ [])
     → entry_count entry ≤ left.instructions → issued before + left.instructions ≤ 10000000
     → issued now + (spent left entry).instructions ≤ 10000000
@@ -169,7 +169,7 @@ three_parts left a w (x ∷ xs) =
     (onto_first x (slice_split (λ b. b == 61) xs))))
     [ true ↦ refl | false ↦ three_onto left a w x (slice_split (λ b. b == 61) xs) ]
 
--- with two signs `=` it is none
+-- a field with two equals signs is no entry
 pub two_signs : (left : Allowance) (digits a rest w more : List ℕ)
     → slice_split (λ b. b == 61) digits ≡ a ∷ slice_split (λ b. b == 61) rest
     → slice_split (λ b. b == 61) rest ≡ w ∷ slice_split (λ b. b == 61) more

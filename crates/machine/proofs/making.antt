@@ -1,4 +1,4 @@
--- What each event leaves of a machine.
+-- The machine after each event.
 pub mod Saving
 pub mod Making
 pub mod Admitting

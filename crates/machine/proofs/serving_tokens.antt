@@ -1,3 +1,3 @@
--- What the calls of the tokens find, and refuse.
+-- The slots that token calls find, and their refusals.
 pub mod SlotLaws
 pub mod TokenRefusals

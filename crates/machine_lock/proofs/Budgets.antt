@@ -1,4 +1,4 @@
--- An issue is refused for the budget only where as many instructions were issued.
+-- An issue is refused for its budget only after that many instructions were issued.
 use Rattle.std.proofs.Common.{◌≡◌, ◌⊎◌, Bool, true, false, List, ◌∷◌, Some, cond, refl, sym}
 use Rattle.std.proofs.Common.{◌∙◌, ap, inl, inr, ⊎_elim, arith, leb}
 use Rattle.std.proofs.lemmas.Bool.{leb-true}
@@ -20,7 +20,7 @@ use Rattle.program_order.specs.Refusals.{may_refuse, is_exchange_refusal}
 use Rattle.program_order.specs.Run.{IsAnswer, answer_of}
 use Rattle.program_order.proofs.keeping.Naming.{answered_err, one_of}
 
--- the first test refuses, or one behind it
+-- the first test refuses, or a later one
 first_or_rest : (t : Test) (ts : List Test) (k : Refusal) → refusal_of (t ∷ ts) ≡ Some k
     → ((t.fails ≡ true) × (t.refusal ≡ k)) ⊎ (refusal_of ts ≡ Some k)
 unfolding refusal_of
@@ -62,7 +62,7 @@ issue_budget w k (inl h) m b =
     omega (arith, l, m)
 issue_budget w k (inr r) m b = let o = r.want in absurd (cc)
 
--- an exchange never is
+-- an exchange is never refused for the budget
 pub exchange_budget : (w : Processor) (k : Refusal) → may_refuse Exchange k ≡ true → k ≡ Budget
     → issued w.log ≡ w.budget
 unfolding may_refuse is_exchange_refusal

@@ -1,4 +1,4 @@
--- What an event under the lock leaves of the log, what its answer tells, and what its caller's pass has then.
+-- An event under the lock: the log after it, the facts in its answer, and its caller's pass.
 use Rattle.std.proofs.Common.{◌≡◌, ℕ, length, Bool, true, false, List, [], ◌∷◌, ◌++◌, Option, Some, None, refl}
 use Rattle.std.proofs.Common.{sym, ap}
 use Rattle.std.proofs.Common.{◌∙◌, subst, get_or, inl, inr}
@@ -37,13 +37,13 @@ use Rattle.progress_word.specs.inner.Rules.{History, Knowing, history, past, kee
 
 -- ---- what an answer has ----
 
--- the reservation that an issue answered, if it did
+-- the reservation in the answer to an issue, if there is one
 abbrev pub note_in : Done → Option Note
 note_in (DoneIssue note) = note
 note_in (Word _) = None
 note_in DoneMade = None
 
--- the word that a peripheral processor read, +0 where the answer has none
+-- the word in the answer to a peripheral read, or +0
 abbrev pub word_in : Done → ℕ
 word_in (DoneIssue _) = 0
 word_in (Word word) = word
@@ -56,7 +56,7 @@ last_step-push [] x = refl
 last_step-push (y ∷ []) x = refl
 last_step-push (y ∷ z ∷ zs) x = last_step-push (z ∷ zs) x
 
--- what was given at boot is as it was
+-- the values given at boot are unchanged
 booted_as : {r : Option ℕ} {xs : List LogStep} (w v : Processor) → Books w v r xs → booted_by v ≡ booted_by w
 booted_as w v b i = booted_with (b.boot i) (b.budget i)
 
@@ -70,12 +70,12 @@ pub refused_same : (w v : Processor) (e : Event) (a : Result Done Refusal) (k : 
 unfolding settled
 refused_same w v e a k s o = s ∙ ap (settled w e) o
 
--- a refused event leaves the log
+-- a refused event leaves the log unchanged
 pub refused_past : (w v : Processor) (e : Event) (a : Result Done Refusal) (k : Refusal) → v ≡ settled w e a
     → a ≡ Err k → past v ≡ past w
 refused_past w v e a k s o = ap past (refused_same w v e a k s o)
 
--- an event that is not logged
+-- whether an event isn't logged
 abbrev pub is_quiet : Event → Bool
 is_quiet Issue = false
 is_quiet Exchange = false
@@ -97,7 +97,7 @@ quiet_steps r Exchange h = absurd (cc)
 quiet_steps r (PpRead a) h = absurd (cc)
 quiet_steps r (PpWrite a v) h = absurd (cc)
 
--- ... leaves the log
+-- such an event leaves the log unchanged
 quiet : (w v : Processor) (e : Event) → is_quiet e ≡ true → v ≡ after w e → past v ≡ past w
 quiet w v e q h =
     let b = books_after w e in
@@ -105,7 +105,7 @@ quiet w v e q h =
     ∙ ap (λ m. history m (after w e).log) (booted_as w (after w e) b)
     ∙ ap (history (booted_by w)) (b.log ∙ ap (λ l. w.log ++ l) (quiet_steps w.request e q) ∙ append-nil w.log)
 
--- ... whatever it is answered
+-- such an event leaves the log unchanged, whatever its answer
 pub quiet_settled : (w v : Processor) (e : Event) (a : Result Done Refusal) → is_quiet e ≡ true → v ≡ settled w e a
     → past v ≡ past w
 unfolding settled
@@ -126,13 +126,13 @@ last_is w v x p =
 seen_of : (w : Processor) (p : Me ℕ Knowing) → p ≡ (keeper (past w), []) → p.0.seen ≡ past w
 seen_of w p e = ap (λ (y : Me ℕ Knowing). y.0.seen) e
 
--- what the machine's pass knew grew by that step
+-- the history known to the machine's pass has grown by that step
 logged : (w v : Processor) (x : LogStep) (p : Me ℕ Knowing) → p ≡ (keeper (past w), []) → LastStep w v x
     → past v ≡ history p.0.seen.booted (p.0.seen.log ++ last_step v.log ∷ [])
 logged w v x p e l =
     l.longer ∙ ap (λ (h : History). history h.booted (h.log ++ last_step v.log ∷ [])) (sym (seen_of w p e))
 
--- ... or didn't
+-- the history known to the machine's pass is unchanged
 unlogged : (w v : Processor) (e : Event) (k : Refusal) (p : Me ℕ Knowing) → p ≡ (keeper (past w), [])
     → v ≡ settled w e (Err k) → past v ≡ p.0.seen
 unlogged w v e k p ep s = refused_past w v e (Err k) k s refl ∙ sym (seen_of w p ep)
@@ -150,18 +150,18 @@ pub seen_refused : (old new : Known) (x : LogStep) (a : Result Done Refusal) (k 
 seen_refused old new x a k o l =
     subst (λ (y : Result Done Refusal). MatchResult y (λ d. IsMade x old new) (λ r. Learnt old new)) (sym o) l
 
--- the machine's pass knows the machine's log, where that is what it knew
+-- the machine's pass knows the machine's log if that is the history that it knew
 pub kept_by : (h : History) (v : Processor) (p : Me ℕ Knowing) → p ≡ (keeper h, []) → past v ≡ h
     → p ≡ (keeper (past v), [])
 kept_by h v p e i = e ∙ ap (λ x. (keeper x, [])) (sym i)
 
--- what a caller that has seen the whole log knows of the machine
+-- a caller that has seen the whole log knows the machine's history
 at_present : (v : Processor) (k : Known) → IsCurrent v k → history k.booted k.log ≡ past v
 at_present v k c i = history (c.0 i) (c.1 i)
 
 -- ---- what a call that tells a part of an answer tells ----
 
--- an event that is answered only that it was made
+-- whether an event's answer says only that it was made
 abbrev pub is_plain : Event → Bool
 is_plain Issue = false
 is_plain (PpRead a) = false
@@ -181,7 +181,7 @@ plain_made w Exchange h = refl
 plain_made w (PpRead a) h = absurd (cc)
 plain_made w (PpWrite a v) h = refl
 
--- its answer is told by whether it was made
+-- the answer to such an event tells whether it was made
 pub plain_told : (w : Processor) (e : Event) (a : Result Done Refusal) (d : Done) → is_plain e ≡ true → IsAnswer w e a
     → a ≡ Ok d → IsAnswer w e (Ok DoneMade)
 plain_told w e a d p i o =
@@ -192,12 +192,7 @@ pub made_told : (w v : Processor) (e : Event) (a : Result Done Refusal) (d : Don
     → a ≡ Ok d → v ≡ w → IsAnswer w e (Ok DoneMade)
 made_told w v e a d p i o s = subst (λ x. IsAnswer x e (Ok DoneMade)) s (plain_told v e a d p i o)
 
--- ... and a refusal by itself
-pub refused_told : (w v : Processor) (e : Event) (a : Result Done Refusal) (k : Refusal) → IsAnswer v e a → a ≡ Err k
-    → v ≡ w → IsAnswer w e (Err k)
-refused_told w v e a k i o s = subst (λ x. IsAnswer x e (Err k)) s (subst (IsAnswer v e) o i)
-
--- the machine under the lock after an event that was made
+-- the machine under the lock after a made event
 pub after_made : (k w : Kept) (m : Processor) (e : Event) (a : Result Done Refusal) (d x : Done) → k ≡ w
     → m ≡ settled k.processor e a → a ≡ Ok d
     → with_processor k m ≡ with_processor w (settled w.processor e (Ok x))
@@ -205,16 +200,6 @@ unfolding settled
 after_made k w m e a d x s h o =
     ap (with_processor k) (h ∙ ap (settled k.processor e) o)
     ∙ ap (λ (y : Kept). with_processor y (after y.processor e)) s
-
--- an access that reads is told by its word
-pub read_told : (w v : Processor) (at : ℕ) (a : Result Done Refusal) (d : Done) (x : ℕ) → IsAnswer v (PpRead at) a
-    → a ≡ Ok d → x ≡ word_in d → v ≡ w → IsAnswer w (PpRead at) (Ok (Word x))
-unfolding done_by
-read_told w v at a d x i o h s =
-    let k : IsAnswer v (PpRead at) (Ok d) = subst (IsAnswer v (PpRead at)) o i in
-    let m = ok_done v (PpRead at) d k (made_allowed v (PpRead at) d k) in
-    subst (λ y. IsAnswer y (PpRead at) (Ok (Word x))) s
-    (subst (λ y. IsAnswer v (PpRead at) (Ok y)) (m ∙ ap Word (sym (h ∙ ap word_in m))) k)
 
 -- ---- an issue ----
 
@@ -228,7 +213,7 @@ issued_past w v a d s o =
     ∙ ap (λ m. history m (after w Issue).log) (booted_as w (after w Issue) b)
     ∙ ap (history (booted_by w)) b.log
 
--- an issue is never answered as any other event is
+-- no answer to an issue is an answer to another event
 done_issue : (w : Processor) (a : Result Done Refusal) (d : Done) → IsAnswer w Issue a → a ≡ Ok d
     → d ≡ DoneIssue (note_in d)
 unfolding answer_of answer_by done_by
@@ -242,7 +227,7 @@ done_issue w a d (inl h) o = by_refusal d (allowed w Issue) (sym o ∙ h)
     by_refusal DoneMade (Some x) k = cc
 done_issue w a d (inr h) o = let k = sym o ∙ h.want in cc
 
--- it is told by its reservation
+-- the reservation in the answer tells which issue it was
 pub issue_told : (w v : Processor) (a : Result Done Refusal) (d : Done) (n : Option Note) → IsAnswer v Issue a
     → a ≡ Ok d → n ≡ note_in d → v ≡ w → IsAnswer w Issue (Ok (DoneIssue n))
 issue_told w v a d n i o h s =
@@ -250,7 +235,7 @@ issue_told w v a d n i o h s =
     subst (λ x. IsAnswer x Issue (Ok (DoneIssue n))) s
     (subst (λ x. IsAnswer v Issue (Ok x)) (done_issue v a d i o ∙ ap DoneIssue (sym h)) k)
 
--- what was answered is what an issue from the state to which the log led answers
+-- the answer is the one to an issue in the state that the log leads to
 pub note_of : (w v : Processor) (a : Result Done Refusal) (d : Done) (k : Known) → replayed w ≡ Some (completed w)
     → IsAnswer w Issue a → v ≡ settled w Issue a → a ≡ Ok d
     → ((n : Option Note) → a ≡ Ok (DoneIssue n) → IsNoted (completed w) (taken (boot v.boot_memory) v.log) n)
@@ -285,7 +270,7 @@ issue_logged w v (Ok d) p ep s =
     logged w v Issued p ep (last_is w v Issued (issued_past w v (Ok d) d s refl))
 issue_logged w v (Err k) p ep s = unlogged w v Issue k p ep s
 
--- what its caller has seen then
+-- the caller's knowledge after the issue
 pub issue_seen : (w v : Processor) (a : Result Done Refusal) (old new : Known) → replayed w ≡ Some (completed w)
     → IsAnswer w Issue a → v ≡ settled w Issue a
     → ((n : Option Note) → a ≡ Ok (DoneIssue n) → IsNoted (completed w) (taken (boot v.boot_memory) v.log) n)
@@ -303,7 +288,7 @@ issue_seen w v (Err k) old new r i s n y b c m = (
       (issue_budget w k i (subst IsWithinBudget (refused_same w v Issue (Err k) k s refl) b)),
 )
 
--- ... where it was made, with the reservation that is answered
+-- the same after a made issue, whose answer has the reservation
 pub issue_made : (w v : Processor) (a : Result Done Refusal) (d : Done) (answered : Option Note) (old new : Known)
     → replayed w ≡ Some (completed w) → IsAnswer w Issue a → v ≡ settled w Issue a
     → ((n : Option Note) → a ≡ Ok (DoneIssue n) → IsNoted (completed w) (taken (boot v.boot_memory) v.log) n)
@@ -316,7 +301,7 @@ issue_made w v a d answered old new r i s n y b c m o h =
     (issue_seen w v a old new r i s n y b c m) in
     (x.0, subst (λ (z : Option Note). IsNoteOf new z) (sym h) x.1)
 
--- ... and where it was refused
+-- the same after a refused issue
 pub issue_why : (w v : Processor) (a : Result Done Refusal) (k : Refusal) (old new : Known)
     → replayed w ≡ Some (completed w) → IsAnswer w Issue a → v ≡ settled w Issue a
     → ((n : Option Note) → a ≡ Ok (DoneIssue n) → IsNoted (completed w) (taken (boot v.boot_memory) v.log) n)
@@ -340,7 +325,7 @@ exchanged_past w v a d n q s o =
     ∙ ap (λ m. history m (after w Exchange).log) (booted_as w (after w Exchange) b)
     ∙ ap (history (booted_by w)) (b.log ∙ ap (λ r. w.log ++ exchange_step r) q)
 
--- the last step of the log is the exchange that was asked for
+-- the last step of the log is the exchange that was requested
 record LastExchange (w v : Processor) : Type 0 where
   pub n : ℕ
   pub request : w.request ≡ Some n
@@ -361,7 +346,7 @@ pub exchange_logged : (w v : Processor) (a : Result Done Refusal) (p : Me ℕ Kn
 exchange_logged w v (Ok d) p ep i s = let l = last_exchange w v d i s in logged w v (Exchanged l.n) p ep l.step
 exchange_logged w v (Err k) p ep i s = unlogged w v Exchange k p ep s
 
--- what its caller has seen then
+-- the caller's knowledge after the exchange
 pub exchange_seen : (w v : Processor) (asked : Option ℕ) (a : Result Done Refusal) (old new : Known)
     → asked ≡ w.request → replayed w ≡ Some (completed w) → IsAnswer w Exchange a → v ≡ settled w Exchange a
     → IfErr a (λ k. IsWhy (completed w) k) → IfErr a (λ k. may_refuse Exchange k ≡ true) → IsCurrent v new
@@ -375,7 +360,7 @@ exchange_seen w v asked (Err k) old new q r i s y b c m = (
   why_of w new k r (at_present v new c ∙ refused_past w v Exchange (Err k) k s refl) y (exchange_budget w k b),
 )
 
--- ... where it was made
+-- the same after a made exchange
 pub exchange_made : (w v : Processor) (asked : Option ℕ) (a : Result Done Refusal) (d : Done) (old new : Known)
     → asked ≡ w.request → replayed w ≡ Some (completed w) → IsAnswer w Exchange a → v ≡ settled w Exchange a
     → IfErr a (λ k. IsWhy (completed w) k) → IfErr a (λ k. may_refuse Exchange k ≡ true) → IsCurrent v new
@@ -386,7 +371,7 @@ exchange_made w v asked a d old new q r i s y b c m o =
     (λ x. (n : ℕ) × (asked ≡ Some n) × IsMade (Exchanged n) old new) (λ k. Learnt old new × IsWhyOf new k)) o
     (exchange_seen w v asked a old new q r i s y b c m)
 
--- ... and where it was refused
+-- the same after a refused exchange
 pub exchange_why : (w v : Processor) (asked : Option ℕ) (a : Result Done Refusal) (k : Refusal) (old new : Known)
     → asked ≡ w.request → replayed w ≡ Some (completed w) → IsAnswer w Exchange a → v ≡ settled w Exchange a
     → IfErr a (λ k. IsWhy (completed w) k) → IfErr a (λ k. may_refuse Exchange k ≡ true) → IsCurrent v new
@@ -404,7 +389,7 @@ is_access (PpRead a) = true
 is_access (PpWrite a v) = true
 is_access _ = false
 
--- the step that it adds to the log
+-- the step that a peripheral access adds to the log
 abbrev pub access_step : Event → LogStep
 access_step (PpRead a) = ReadAt a
 access_step (PpWrite a v) = Wrote a v
@@ -442,14 +427,14 @@ pub access_logged : (w v : Processor) (e : Event) (a : Result Done Refusal) (p :
 access_logged w v e (Ok d) p ep q s = logged w v (access_step e) p ep (last_access w v e d q s)
 access_logged w v e (Err k) p ep q s = unlogged w v e k p ep s
 
--- what its caller has seen then
+-- the caller's knowledge after the access
 pub access_seen : (w v : Processor) (e : Event) (a : Result Done Refusal) (old new : Known) → is_access e ≡ true
     → v ≡ settled w e a → MatchResult a (λ d. IsMade (last_step v.log) old new) (λ k. Learnt old new)
     → MatchResult a (λ d. IsMade (access_step e) old new) (λ k. Learnt old new)
 access_seen w v e (Ok d) old new q s m = subst (λ x. IsMade x old new) (last_access w v e d q s).last m
 access_seen w v e (Err k) old new q s m = m
 
--- ... where it was made
+-- the same after a made access
 pub access_made : (w v : Processor) (e : Event) (a : Result Done Refusal) (d : Done) (old new : Known)
     → is_access e ≡ true → v ≡ settled w e a
     → MatchResult a (λ x. IsMade (last_step v.log) old new) (λ k. Learnt old new) → a ≡ Ok d
@@ -458,7 +443,7 @@ access_made w v e a d old new q s m o =
     subst (λ (z : Result Done Refusal). MatchResult z (λ x. IsMade (access_step e) old new) (λ k. Learnt old new)) o
     (access_seen w v e a old new q s m)
 
--- the word that was read is that of the replay
+-- the word in the answer is the word that the replay reads
 pub word_of : (v : Processor) (k : Known) (a : ℕ) (r : Result Done Refusal) (d : Done)
     → replayed v ≡ Some (completed v) → IsCurrent v k
     → ((done : Done) → r ≡ Ok done → done ≡ Word (get_or (completed v).memory a 0)) → r ≡ Ok d → IsWordOf k a (word_in d)
@@ -525,14 +510,14 @@ pub kept_same : (w v : Processor) (p q : Me ℕ Knowing) → p ≡ (keeper (past
     → q ≡ (keeper (past v), [])
 kept_same w v p q ep ev eq = eq ∙ ep ∙ ap (λ h. (keeper h, [])) (sym ev)
 
--- what the caller has seen is the log of a machine that keeps its replay
+-- the caller has seen the log of a machine whose state is kept equal to its replay
 pub replay_by : (v : Processor) (n : Me ℕ Knowing) → replayed v ≡ Some (completed v) → past_by n ≡ past v
     → HasReplay (known_by n)
 unfolding replayed
 replay_by v n r p =
     (completed v, ap (λ (x : History). replay (boot x.booted.memory) x.log) p ∙ r)
 
--- who had seen the whole log learns nothing where it is the same
+-- a caller that has seen the whole log learns nothing if the log is unchanged
 pub same_seen : (w v : Processor) (old new : Known) → IsCurrent w old → IsCurrent v new → past v ≡ past w
     → Learnt old new → new ≡ old
 same_seen w v old new o n p l =

@@ -12,7 +12,7 @@ unfolding then_taken
 then_rises None f g h = omega arith
 then_rises (Some s) f g h = h s
 
--- the count of a longer beginning is no less
+-- the number of reservations doesn't fall as the log grows
 rises : (s : State) (xs : List LogStep) (m n : ℕ) → m ≤ n → taken s (take m xs) ≤ taken s (take n xs)
 unfolding taken
 rises s xs zero n l = omega arith

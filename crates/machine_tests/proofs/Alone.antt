@@ -1,4 +1,4 @@
--- One instruction in flight, which was reserved at boot.
+-- One instruction in flight, reserved just after boot.
 use Rattle.std.proofs.Common.{◌≡◌, ℕ, false, [], Option, Some, None, refl, sym, ap, ◌∙◌, subst}
 use Rattle.std.specs.Prelude.{is_none, replicate, IfSome}
 use Rattle.instructions.specs.declared.instr.Instr.{Instr}

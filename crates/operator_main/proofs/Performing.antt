@@ -1,4 +1,4 @@
--- Work that is done, and work for whose buffer there is no memory.
+-- Performing a request, with memory for its buffer and without.
 use Rattle.std.proofs.Common.{◌≡◌, ◌==◌, ℕ, List, [], Option, None, Some, Result, Err, refl, inl, ap, ◌∙◌}
 use Rattle.std.proofs.Common.{subst, le_refl, if◌then◌else◌}
 use Rattle.std.specs.Prelude.{option_map}
@@ -50,7 +50,7 @@ performed_nothing request input old =
       carried_out = left_there request input old;
     }
 
--- what is behind the buffer of a reader that was just made is what is left to read
+-- the bytes behind a new reader's buffer are the bytes left to read
 pub fresh_reader : {T A : Type 0} (remaining : T → Option (List ℕ)) (r : BufReader T A) (inner : T)
     → reader_inner r ≡ inner → reader_buffer r ≡ [] → reader_capacity r ≡ 8192
     → reader_remaining remaining r ≡ remaining inner
@@ -59,7 +59,7 @@ fresh_reader remaining r inner i b k =
     ap (λ bs. prepend_known bs (remaining r.inner)) b ∙ prepend_known-nil (remaining r.inner) ∙ ap remaining i in
     ap (λ n. if n == 0 then None else prepend_known (reader_buffer r) (remaining r.inner)) k ∙ whole
 
--- the work is done between devices over the input and the output
+-- the request is performed between devices over the input and the output
 pub performed : (request : Request) (found end : Result Status ProgramFault)
     (input old start rest first last new : Option (List ℕ)) → found ≡ end → start ≡ input → first ≡ old → last ≡ new
     → Moves start rest (λ xs ys. CarriesOut request found xs ys first last) → Performed request end input old new

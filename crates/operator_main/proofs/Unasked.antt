@@ -1,4 +1,4 @@
--- Words that ask for nothing that the program does.
+-- Command lines that ask for nothing that the program does.
 use Rattle.std.proofs.Common.{◌≡◌, ◌≢◌, ◌⊎◌, ℕ, List, Option, Result, Ok, Err, refl}
 use Rattle.std.proofs.KnownBytes.{Keeps-refl}
 use Rattle.clap.specs.declared.error.kind.ErrorKind.{ErrorKind}

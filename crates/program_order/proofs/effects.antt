@@ -1,4 +1,4 @@
--- Changes of the state that touch nothing of one another, up to all that is still to come.
+-- Changes of different parts of the state, extended to all pending instructions.
 pub mod Effects
 pub mod OnePending
 pub mod Completing

@@ -1,4 +1,4 @@
--- What each event keeps, and which refusals it may have.
+-- The properties that each event keeps, and the refusals that it may have.
 pub mod Sizes
 pub mod Slotted
 pub mod There

@@ -1,4 +1,4 @@
--- What leads to a machine, call by call.
+-- Reaching a machine, call by call.
 pub mod Runs
 pub mod Seats
 pub mod Reached

@@ -1,4 +1,4 @@
--- From what one event does to the headline of every run.
+-- From the effect of one event to the headline about every run.
 pub mod Moves
 pub mod Apart
 pub mod Events

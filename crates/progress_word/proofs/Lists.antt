@@ -1,4 +1,4 @@
--- Lists that begin one another, positions in lists, and views at their numbers.
+-- Prefixes of lists, positions in lists, and the views at the numbers of passes.
 use Rattle.std.proofs.Common.{◌≡◌, ◌⊎◌, ℕ, zero, suc, ◌==◌, ◌||◌, Bool, true, false, List, [], ◌∷◌, ◌++◌, length}
 use Rattle.std.proofs.Common.{replicate, take, ◌+◌, ◌<◌, get_or, add-one, refl, sym, ap, ◌∙◌, ⊎_elim, inl, inr, arith}
 use Rattle.std.proofs.Common.{append_assoc}
@@ -42,7 +42,7 @@ in_append p (x ∷ xs) ys e = by_head (p == x) refl (in_append p xs ys)
 pub in_one : (p x : ℕ) → is_in p (x ∷ []) ≡ true → p ≡ x
 in_one p x e = grind (arith, nat_tests)
 
--- these positions go to another owner
+-- these positions pass to another owner
 abbrev pub give : (ℕ → ℕ) → List ℕ → ℕ → ℕ → ℕ
 give owner positions to p = if is_in p positions then to else owner p
 
@@ -58,21 +58,12 @@ give_out owner positions to p out = by_test (is_in p positions) refl
     by_test true e = absurd (out e)
     by_test false e = ap (λ (b : Bool). if b then to else owner p) e
 
-replicate-more : {A : Type 0} (n : ℕ) (x : A) → replicate n x ++ x ∷ [] ≡ replicate (suc n) x
-replicate-more zero x = refl
-replicate-more (suc n) x = ap (λ l. x ∷ l) (replicate-more n x)
-
--- one more of these behind a list
-pub one_more : {A : Type 0} (xs : List A) (n : ℕ) (x : A) → (xs ++ replicate n x) ++ x ∷ [] ≡ xs ++ replicate (n + 1) x
-one_more xs n x = append_assoc xs (replicate n x) (x ∷ []) ∙ ap (λ l. xs ++ l) (replicate-more n x)
-    ∙ ap (λ k. xs ++ replicate k x) (let e : suc n ≡ n + 1 = omega arith in e)
-
--- the steps of one entry more
+-- the steps of one more entry
 pub steps_of-more : (es : List Entry) (i : ℕ) (d : Entry) → i < length es → steps_of (take (i + 1) es) ≡ steps_of
     (take i es) ++ steps_of (get_or es i d ∷ [])
 steps_of-more es i d l = ap (λ n. steps_of (take n es)) (add-one i) ∙ taken_steps es i d l
 
--- the step of an entry that has one
+-- the step of an entry that is one
 abbrev pub step_of : Entry → LogStep
 step_of (Count n) = Issued
 step_of (Exchange n) = Exchanged n

@@ -22,7 +22,7 @@ off e = true≢false (sym e)
 goes_on_self : (h : History) → Continues h h
 goes_on_self h = (refl, starts_all h.log)
 
--- the view at one number is replaced
+-- one view is replaced
 fits_set : (keeper_at : ℕ) (begun : Bool) (h : History) (owner : ℕ → ℕ) (views : List Knowing) (by : ℕ) (w : Knowing)
     → Fits keeper_at begun h owner by w
     → ((j : ℕ) (u : Knowing) → j ≢ by → get_elem? views j ≡ some u → Fits keeper_at begun h owner j u)
@@ -35,7 +35,7 @@ fits_set keeper_at begun h owner views by w mine others j u e =
     (λ (x : (j ≢ by) × (get_elem? views j ≡ some u)). others j u x.0 x.1)
     (at_set views by j w u e)
 
--- a view is put behind the others
+-- a view is appended
 fits_snoc : (keeper_at : ℕ) (begun : Bool) (h : History) (owner : ℕ → ℕ) (views : List Knowing) (w : Knowing)
     → Fits keeper_at begun h owner (length views) w
     → ((j : ℕ) (u : Knowing) → get_elem? views j ≡ some u → Fits keeper_at begun h owner j u) → (j : ℕ) (u : Knowing)
@@ -47,11 +47,11 @@ fits_snoc keeper_at begun h owner views w mine others j u e =
     (λ i. (sym x.0 i, x.1 i)) mine)
     (at_snoc views w u j e)
 
--- no positions
+-- an empty list of positions
 none_of : (owner : ℕ → ℕ) (by : ℕ) (log : List LogStep) → BelongTo owner by log []
 none_of owner by log p e = absurd (off e)
 
--- a pass that knows nothing
+-- a pass without knowledge
 blank : (keeper_at : ℕ) (begun : Bool) (h : History) (owner : ℕ → ℕ) (by : ℕ) → Fits keeper_at begun h owner by spent
 blank keeper_at begun h owner by = record {
   keeps = λ e. absurd (off e);
@@ -61,7 +61,7 @@ blank keeper_at begun h owner by = record {
   apart = λ p a b. off a;
 }
 
--- what the others know stays true where positions of one pass change hands
+-- the other passes' knowledge stays true when positions of one pass change hands
 kept_by_others : (keeper_at : ℕ) (begun : Bool) (k : History) (owner : ℕ → ℕ) (positions : List ℕ) (from to j : ℕ)
     (u : Knowing) → ((p : ℕ) → is_in p positions ≡ true → owner p ≡ from) → j ≢ from → Fits keeper_at begun k owner j u
     → Fits keeper_at begun k (give owner positions to) j u
@@ -240,7 +240,7 @@ takes_in id v other w is s h at two at' =
         (λ (t : (j ≢ by) × (get_elem? views j ≡ some u)). others j u t.0 apart t.1)
         (at_set views by j x u e)
 
--- the word as it was
+-- the word is unchanged
 same_word : (ws : List ℕ) (n : ℕ) → ws ≡ n ∷ [] → set ws 0 (slice_index ws 0) ≡ n ∷ []
 same_word ws n e = subst (λ (l : List ℕ). set l 0 (slice_index l 0) ≡ n ∷ []) (sym e) refl
 
@@ -351,7 +351,7 @@ adds slots id me x is kn s h _ at _ =
       (refl, (refl, subst (λ (y : History). Continues y v.told) (sym here) m.2)),
     )
 
--- the first pass, before it knows a history, begins one
+-- the first pass begins a history before it knows one
 pub starts : (slots id : ℕ) (boot : Booted) → Allows IsCounted slots id (fresh, []) 0 (λ n. n)
     (λ n w. (w.1 ≡ []) × (w.0 ≡ keeper (history boot [])))
 starts slots id boot s h _ at _ =

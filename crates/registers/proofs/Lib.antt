@@ -1,2 +1,2 @@
--- What is known of the registers.
+-- Facts about registers.
 pub mod RegisterLaws

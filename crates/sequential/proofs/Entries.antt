@@ -1,4 +1,4 @@
--- The entries of a log, with one more at the end or a count raised.
+-- The entries of a log, after one is appended or a count is raised.
 use Rattle.std.proofs.Common.{◌≡◌, ◌<◌, ◌≤◌, ◌+◌, ◌-◌, ℕ, zero, suc, true, false, List, [], ◌∷◌, ◌++◌, Some, None}
 use Rattle.std.proofs.Common.{length, refl, sym, ap, subst, ◌∙◌, append_assoc, append-nil, arith}
 use Rattle.std.specs.Prelude.{◌^◌, Bool, if◌then◌else◌, min, replicate, slice_get, slice_set}
@@ -8,7 +8,7 @@ use Rattle.sequential.specs.Log.{Logged, steps_of, entries_of, one_before, more_
 use Rattle.sequential.specs.Log.{run_after, last_run}
 use Rattle.sequential.specs.Replay.{LogStep, Issued, Exchanged, ReadAt, Wrote}
 
--- an entry that is no count, with the one step that it stands for
+-- an entry that is no count, with its one step
 pub record IsSingle (x : LogStep) (e : Entry) : Type 0 where
   pub steps : (es : List Entry) → steps_of (e ∷ es) ≡ x ∷ steps_of es
   pub entries : (xs : List LogStep) → entries_of (x ∷ xs) ≡ e ∷ entries_of xs
@@ -141,7 +141,7 @@ run_after_within n (Exchanged k ∷ xs) = let h = run_after_within 0 xs in omega
 run_after_within n (ReadAt a ∷ xs) = let h = run_after_within 0 xs in omega (arith, h)
 run_after_within n (Wrote a w ∷ xs) = let h = run_after_within 0 xs in omega (arith, h)
 
--- the instructions at the end are among all
+-- the instructions at the end are some of all instructions
 pub last_run_within : (xs : List LogStep) → last_run xs ≤ issued xs
 last_run_within xs = let h = run_after_within 0 xs in omega (arith, h)
 
@@ -178,7 +178,7 @@ more_counted k n =
     ∙ replicate-sum k n
     ∙ ap (λ l. l ++ replicate n Issued) (sym (append-nil (replicate k Issued)))
 
--- the last count, so much higher
+-- the steps after the last count was raised by n
 pub raised_steps : (es : List Entry) (i k n : ℕ) → length es ≡ suc i → slice_get es i ≡ Some (Count k)
     → steps_of (slice_set es i (Count (k + n))) ≡ steps_of es ++ replicate n Issued
 raised_steps es i k n l h =
@@ -195,7 +195,7 @@ raised_open es i k n l h =
     let r = ends_at es i (Count k) l h in
     ap ends_open (r.2 (Count (k + n))) ∙ opened_by_count r.0 (k + n)
 
--- a count that is the last entry is of the instructions at the end
+-- the last entry, if it is a count, counts the instructions at the end
 pub count_last : (es : List Entry) (i n : ℕ) → length es ≡ suc i → slice_get es i ≡ Some (Count n)
     → n ≤ last_run (steps_of es)
 count_last es i n l h =
@@ -210,7 +210,7 @@ open_at_count es i n l h =
     let r = ends_at es i (Count n) l h in
     ap ends_open r.1 ∙ opened_by_count r.0 n
 
--- no last element
+-- the list has no last element
 pub none_last : (es : List Entry) → slice_get es (length es - 1) ≡ None → ends_open es ≡ false
 unfolding ends_open
 none_last [] h = refl
@@ -223,13 +223,13 @@ none_last (e ∷ es) h = absurd
     present (x ∷ xs) zero k h = cc
     present (x ∷ xs) (suc i) k h = present xs i (omega arith) h
 
--- an element that was read stands in the list
+-- an element that was read is in the list
 pub read_within : (es : List Entry) (i : ℕ) (e : Entry) → slice_get es i ≡ Some e → i < length es
 read_within [] i e h = cc
 read_within (x ∷ es) zero e h = omega arith
 read_within (x ∷ es) (suc i) e h = let k : i < length es = read_within es i e h in omega arith
 
--- the last position of a list with an element there
+-- the position of the last element
 pub last_place : (es : List Entry) (e : Entry) → slice_get es (length es - 1) ≡ Some e → length es ≡ suc (length es - 1)
 last_place es e h = let k = read_within es (length es - 1) e h in omega (arith, k)
 
@@ -316,14 +316,14 @@ last_after (PpRead a ∷ []) k n = refl
 last_after (PpWrite a w ∷ []) k n = refl
 last_after (e ∷ f ∷ es) k n = ap (λ l. e ∷ l) (last_after (f ∷ es) k n)
 
--- the last count, so much higher
+-- the entries after the last count was raised by n
 pub raised_after : (es : List Entry) (i k n : ℕ) → length es ≡ suc i → slice_get es i ≡ Some (Count k)
     → slice_set es i (Count (k + n)) ≡ more_after n es
 raised_after es i k n l h =
     let r = ends_at es i (Count k) l h in
     r.2 (Count (k + n)) ∙ sym (last_after r.0 k n) ∙ ap (more_after n) (sym r.1)
 
--- a count of its own
+-- the entries after a new count was appended
 pub added_after : (es : List Entry) (n : ℕ) → ends_open es ≡ false → es ++ Count n ∷ [] ≡ more_after n es
 unfolding more_after ends_open
 added_after [] n h = refl
@@ -333,7 +333,7 @@ added_after (PpRead a ∷ []) n h = refl
 added_after (PpWrite a w ∷ []) n h = refl
 added_after (e ∷ f ∷ es) n h = ap (λ l. e ∷ l) (added_after (f ∷ es) n h)
 
--- the entries stay the shortest ones
+-- the entries remain the shortest ones for their steps
 pub shortest_after_issues : (es fs : List Entry) (n : ℕ) → 0 < n → es ≡ entries_of (steps_of es) → fs ≡ more_after n es
     → steps_of fs ≡ steps_of es ++ replicate n Issued → fs ≡ entries_of (steps_of fs)
 shortest_after_issues es fs zero z h p q = absurd (omega (arith, z))
@@ -394,11 +394,11 @@ shortest_open (Exchanged n ∷ s ∷ steps) = open_past (Exchange n) s steps (sh
 shortest_open (ReadAt a ∷ s ∷ steps) = open_past (PpRead a) s steps (shortest_open (s ∷ steps))
 shortest_open (Wrote a w ∷ s ∷ steps) = open_past (PpWrite a w) s steps (shortest_open (s ∷ steps))
 
--- the last entry is a count where the last step is an instruction, as the entries are the shortest ones
+-- the last entry is a count exactly if the last step is an instruction, since the entries are the shortest
 pub open_as_issuing : (es : List Entry) → es ≡ entries_of (steps_of es) → ends_open es ≡ ends_issuing (steps_of es)
 open_as_issuing es h = ap ends_open h ∙ shortest_open (steps_of es)
 
--- room for a count of its own, where one is needed
+-- room for a new count, if one is needed
 pub room_for_count : (es : List Entry) (log : Logged) (spare : ℕ) → es ≡ entries_of (steps_of es)
     → record { steps = steps_of es; room = spare } ≡ log → (ends_issuing log.steps ≡ false → 0 < log.room)
     → ends_open es ≡ false → 0 < spare
@@ -412,7 +412,7 @@ spent : (is_open : Bool) (length capacity new : ℕ) → new ≡ length + (if is
 spent true length capacity new e room = omega (arith, e)
 spent false length capacity new e room = let k = room refl in omega (arith, e, k)
 
--- what is left of the room after instructions
+-- the room left after more instructions
 pub room_after_count : (es : List Entry) (log : Logged) (length capacity new : ℕ) → es ≡ entries_of (steps_of es)
     → record { steps = steps_of es; room = capacity - length } ≡ log
     → (ends_issuing log.steps ≡ false → 0 < log.room) → new ≡ length + (if ends_open es then 0 else 1)
@@ -437,14 +437,14 @@ issuing_after (s ∷ t ∷ steps) = issuing_after (t ∷ steps)
 
 -- ---- how many instructions there are, as far as a number can tell ----
 
--- what a log keeps of how many instructions it has
+-- the number of instructions that a log keeps
 pub record IsCounted (issues : ℕ) (steps : List LogStep) : Type 0 where
-  -- all of them, or the largest number
+  -- all instructions, or the largest number
   pub count : issues ≡ min (issued steps) (2 ^ 64 - 1)
-  -- those at the end can be counted
+  -- the instructions at the end can be counted
   pub run : last_run steps ≤ issues
 
--- so many more
+-- the count after n more instructions
 pub counted_more : (issues new : ℕ) (xs ys : List LogStep) (n : ℕ) → issues ≡ min (issued xs) (2 ^ 64 - 1)
     → last_run xs ≤ issues → last_run xs + n < 2 ^ 64 → ys ≡ xs ++ replicate n Issued
     → new ≡ min (issues + n) (2 ^ 64 - 1) → IsCounted new ys
@@ -456,7 +456,7 @@ counted_more issues new xs ys n c r h e k =
       run = omega (arith, b, r, h, k);
     }
 
--- an entry that is no count
+-- the count after an entry that is no count
 pub counted_single : (x : LogStep) (e : Entry) → IsSingle x e → (issues : ℕ) (es fs : List Entry)
     → issues ≡ min (issued (steps_of es)) (2 ^ 64 - 1) → fs ≡ es ++ e ∷ [] → IsCounted issues (steps_of fs)
 counted_single x e s issues es fs c p =

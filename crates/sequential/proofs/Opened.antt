@@ -5,32 +5,32 @@ use Rattle.sequential.specs.State.{absolute, access_at, bounds_of, halt_by, move
 use Rattle.sequential.specs.Step.{do_fetched, fetch, fetched_from, step, step_unless, word_at, word_seen}
 use Rattle.sequential.specs.Work.{address_in, jump_for, number_in, refer_at, reference_for, word_in}
 
--- the word that the next instruction is taken from
+-- the word with the next instruction
 unfoldable pub word_to_take : Unit {0}
 unfolding word_seen word_at absolute bounds_of
 word_to_take = tt
 
--- a load and a store, in range and out of it
+-- a load and a store, in range and out of range
 unfoldable pub reference_cases : Unit {0}
 unfolding refer_at access_at write store_word
 reference_cases = tt
 
--- what each thing that was fetched does
+-- the effect of each fetched item
 unfoldable pub fetched_cases : Unit {0}
 unfolding do_fetched halt_by move_to bounds_of
 fetched_cases = tt
 
--- a step of a machine that is halted, and of one that fetches
+-- a step of a halted machine, and a step that fetches
 unfoldable pub step_cases : Unit {0}
 unfolding step step_unless fetch fetched_from do_fetched halt_by move_to
 step_cases = tt
 
--- the steps of no entries, how many instructions these are, and how many end them
+-- an empty list of entries: its steps, their instructions, and the instructions at its end
 unfoldable pub no_entries : Unit {0}
 unfolding steps_of entries_of issued run_after
 no_entries = tt
 
--- what an instruction does with its value, and the reference that it makes
+-- the work of an instruction with its value, and the reference that it makes
 unfoldable pub work_of_a_value : Unit {0}
 unfolding number_in address_in word_in jump_for reference_for memory_of
 work_of_a_value = tt

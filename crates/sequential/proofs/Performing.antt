@@ -1,14 +1,13 @@
--- What an instruction does, from its parts.
+-- The effect of an instruction, composed of its parts.
 use Rattle.std.proofs.Common.{◌≡◌, ℕ, ◌||◌, Bool, Option, Some, None, refl, sym, ap, ◌∙◌}
 use Rattle.std.specs.Prelude.{option_to_list}
 use Rattle.instructions.specs.declared.instr.Instr.{Instr}
 use Rattle.instructions.specs.declared.instr.Reg.{Reg}
-use Rattle.instructions.specs.Shape.{Shape, shape_of, sets_of}
+use Rattle.instructions.specs.Shape.{Shape, shape_of}
 use Rattle.unit_ops.specs.declared.Operands.{Operands}
 use Rattle.unit_ops.specs.declared.UnitValue.{UnitValue}
 use Rattle.unit_ops.specs.Values.{value_of}
 use Rattle.sequential.specs.declared.state.State.{State}
-use Rattle.sequential.specs.declared.work.ProgramReference.{ProgramReference}
 use Rattle.sequential.specs.declared.work.Work.{Work as DoneWork}
 use Rattle.sequential.specs.Position.{after_jump}
 use Rattle.sequential.specs.State.{Bounds, write_all, write, jump_to, or_fault}
@@ -22,7 +21,7 @@ unfolding write_all write each_set_to
 one_written s None n = refl
 one_written s (Some r) n = refl
 
--- what is written by the work of a value, with its jump and its fault
+-- the state after the work of a value, with its jump and its fault
 pub written_by : (b : Bounds) (s : State) (shape : Shape) (v : UnitValue) (work : DoneWork) (f : Bool)
     → IsWorkOf shape v work → f ≡ fault_of b (reference_for shape v)
     → written s work f ≡ write_and_jump b s (work_of shape v)

@@ -1,4 +1,4 @@
--- Runs of steps, and the entries of a log one after another.
+-- Consecutive steps, and the entries of a log one by one.
 use Rattle.std.specs.Prelude.{option_and_then}
 use Rattle.std.proofs.Common.{◌≡◌, ◌<◌, ◌≤◌, ◌+◌, ◌-◌, ℕ, zero, suc, true, false, cond, List, [], ◌∷◌, ◌++◌, Option}
 use Rattle.std.proofs.Common.{Some, None, length, take, drop, get_or, is_some, refl, sym, ap, ◌∙◌, append_assoc}
@@ -66,7 +66,7 @@ pub issues_done : (s t : State) (n : ℕ) (e : Entry) → e ≡ Count n → repl
 unfolding steps_of
 issues_done s t n e m h = ap (λ x. replay s (steps_of (x ∷ []))) m ∙ ap (replay s) (append-nil (replicate n Issued)) ∙ h
 
--- an entry of one step, which was made or refused
+-- an entry of one step, made or refused
 pub single_answered : {K : Type 0} (r : Result K Refusal) (s t v : State) (x : LogStep) (e : Entry) (b : Bool)
     (k : Refusal) → steps_of (e ∷ []) ≡ x ∷ [] → do_log_step s x ≡ cond b (Some v) None
     → MatchResult r (λ y. b ≡ true) (λ refusal. (b ≡ false) × (refusal ≡ k))
@@ -113,11 +113,11 @@ replay-append s (x ∷ xs) ys = after (do_log_step s x) (λ t. replay-append t x
     after None h = refl
     after (Some t) h = h t
 
--- a replay that came to a state goes on from it
+-- a replay can be continued from the state that it reached
 pub replay_on : (s t : State) (xs ys : List LogStep) → replay s xs ≡ Some t → replay s (xs ++ ys) ≡ replay t ys
 replay_on s t xs ys h = replay-append s xs ys ∙ ap (λ o. option_and_then (λ u. replay u ys) o) h
 
--- the steps of a list of entries are those before an entry, its own and those after it
+-- the steps of a list of entries are the steps before an entry, its own and the steps after it
 split_steps : (es : List Entry) (i : ℕ) (d : Entry) → i < length es → steps_of es ≡ steps_of (take i es)
     ++ (steps_of (get_or es i d ∷ []) ++ steps_of (drop (suc i) es))
 unfolding steps_of
@@ -172,7 +172,7 @@ refused_step s (ReadAt a) k h = ap (λ b. cond b (Some s) None) (unfit (ltb a (l
 refused_step s (Wrote a w) k h =
     ap (λ b. cond b (Some (store_word s a w)) None) (unfit (ltb a (length s.memory)) PeripheralRange k h)
 
--- steps of which one is refused lead nowhere
+-- a replay with a refused step reaches no state
 pub refused_replay : (s t : State) (xs : List LogStep) (k : Refusal) → IsRefusedAt s xs t k → replay s xs ≡ None
 unfolding replay
 refused_replay s t xs k r =
@@ -180,7 +180,7 @@ refused_replay s t xs k r =
     ∙ replay_on s t r.before (r.at ∷ r.after) r.reached
     ∙ ap (λ o. option_and_then (λ u. replay u r.after) o) (refused_step t r.at k r.refused)
 
--- the entry of a list at which it is refused
+-- the entry of the list that is refused
 pub refused_at : (s t u : State) (es : List Entry) (xs : List LogStep) (i : ℕ) (d e : Entry) (k : Refusal)
     → i < length es → e ≡ get_or es i d → steps_of es ≡ xs → replay s (steps_of (take i es)) ≡ Some t
     → IsRefusedAt t (steps_of (e ∷ [])) u k → IsRefusedAt s xs u k

@@ -1,4 +1,4 @@
--- The instructions of a log that go to a unit are counted step by step.
+-- The instructions of a log that go to a unit, counted step by step.
 use Rattle.std.specs.Prelude.{option_and_then}
 use Rattle.std.proofs.Common.{◌≡◌, ◌+◌, List, [], ◌∷◌, ◌++◌, Option, Some, None, refl, ap, arith}
 use Rattle.std.proofs.lemmas.Option.{same_Some}
@@ -11,7 +11,7 @@ unfolding then_taken
 then_none None = refl
 then_none (Some s) = refl
 
--- one more step of a log whose replay came to a state
+-- one more step after a replay that reached a state
 pub taken-push : (s t : State) (xs : List LogStep) (x : LogStep) → replay s xs ≡ Some t
     → taken s (xs ++ x ∷ []) ≡ taken s xs + taken_at t x
 unfolding taken replay then_taken

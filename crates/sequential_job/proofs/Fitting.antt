@@ -1,4 +1,4 @@
--- The packages that a judged deck names lie in its memory.
+-- The packages that a judged deck names are within its memory.
 use Rattle.std.proofs.Common.{◌≡◌, ℕ, ◌+◌, Bool, true, false, not, cond, ltb, List, [], ◌∷◌, length, Option, None}
 use Rattle.std.proofs.Common.{Some, Ok, Err, refl, sym, subst}
 use Rattle.std.specs.Prelude.{All, IfSome, is_some, nat_le, nat_lt}
@@ -21,28 +21,28 @@ use Rattle.instructions.specs.declared.refusal.DeckFault.TheVariants as faults
 use Rattle.relocation.specs.Relocation.{package_fits}
 use Rattle.word60.specs.Words.{from_octal}
 
--- the sixteen words of each package that a deck names lie in its memory
+-- the sixteen words of each package that the deck names are within its memory
 pub record IsFit (deck : Deck) : Type 0 where
   pub start : package_fits deck.start (length deck.image.memory) ≡ true
   pub asks : All (λ ask. package_fits ask.at (length deck.image.memory) ≡ true) deck.asks
   pub free : All (λ at. package_fits at (length deck.image.memory) ≡ true) deck.free
 
--- the sixteen words of a package lie in a memory of this size
+-- the sixteen words of a package are within a memory of this size
 abbrev pub Lies : ℕ → ℕ → Type 0
 Lies size at = package_fits at size ≡ true
 
--- the packages that a deck has named so far lie in a memory of this size
+-- the packages named so far are within a memory of this size
 record Fits (size : ℕ) (first : Option ℕ) (given : List AskLine) (always : List ℕ) : Type 0 where
   pub start : IfSome first (Lies size)
   pub asks : All (λ (ask : AskLine). Lies size ask.at) given
   pub free : All (Lies size) always
 
--- those of a draft lie in its memory
+-- the packages that a draft names are within its memory
 abbrev DraftFits : Draft → Type 0
 DraftFits d = Fits (size d) d.start d.asks d.free
 
--- the draft or the deck that a line gives, if it gives one, has its packages in memory. It is opened only where it is
--- named, so that the tests of a line are found by comparing its argument
+-- a draft or deck that comes of a line has its packages within memory. It is unfolded only where it is named, so that
+-- the tests of a line are found by comparing its argument
 unfoldable OutcomeFits : LineOutcome → Type 0
 OutcomeFits (Ok (Goes d)) = DraftFits d
 OutcomeFits (Ok (Ends whole)) = IsFit whole
@@ -50,7 +50,7 @@ OutcomeFits (Err fault) = Unit {0}
 
 -- ---- one line ----
 
--- behind a test that refuses, the test is false
+-- after a test that refuses, its condition is false
 if_taken : (bad : Bool) (fault : DeckFault) (next : LineOutcome) → (bad ≡ false → OutcomeFits next)
     → OutcomeFits (refuse_if bad fault next)
 unfolding OutcomeFits
@@ -131,12 +131,12 @@ line_fits d says.Unknown f = fails faults.Unknown
 
 -- ---- the lines of a deck ----
 
--- the draft that the lines before began, if there is one, has its packages in memory
+-- the draft of the earlier lines, if there is one, has its packages within memory
 abbrev BeforeFits : Option Draft → Type 0
 BeforeFits None = Unit {0}
 BeforeFits (Some d) = DraftFits d
 
--- the deck that is read, if there is one, has its packages in memory
+-- the deck, if one is read, has its packages within memory
 abbrev ReadingFits : Reading → Type 0
 ReadingFits (Good d n rest) = IsFit d
 ReadingFits (Bad n fault rest) = Unit {0}
@@ -166,6 +166,6 @@ from_fits n before bytes (line ∷ lines) f =
           (λ d g. from_fits (n + 1) (Some d) line.1 lines g)
     ]
 
--- the packages that a judged deck names lie in its memory
+-- the packages that a judged deck names are within its memory
 pub deck_fits : (bytes : List ℕ) (d : Deck) (n : ℕ) (rest : List ℕ) → deck bytes ≡ Good d n rest → IsFit d
 deck_fits bytes d n rest e = subst ReadingFits e (from_fits 1 None bytes (lines_of bytes) tt)

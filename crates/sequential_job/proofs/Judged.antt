@@ -1,4 +1,4 @@
--- A run of a judged deck comes to no exchange whose sixteen words don't lie in memory.
+-- A run of a judged deck reaches no exchange whose sixteen words aren't within memory.
 use Rattle.std.proofs.Common.{◌≡◌, ℕ, List, length, true, Option, Result, Ok, Err, refl}
 use Rattle.std.proofs.lemmas.List.Elements.{All-map}
 use Rattle.deck.specs.Deck.{Good, deck}
@@ -22,7 +22,7 @@ judged_fits bytes d n rest budget e =
     (All-map (λ ask. package_fits ask.0 (length d.image.memory) ≡ true) (λ ask. (ask.at, ask.after)) d.asks fit.asks)
     fit.free
 
--- what is printed of a deck that was read is what is printed of its bytes
+-- the output for a deck that was read is the output for its bytes
 runs_good : (r : Result State Refusal) (bytes : List ℕ) (d : Deck) (n : ℕ) (rest : List ℕ) (budget : ℕ)
     (old new : Option (List ℕ)) → deck bytes ≡ Good d n rest → PrintsSequentialRun r d budget old new
     → RunsSequentially r (deck bytes) budget rest old new

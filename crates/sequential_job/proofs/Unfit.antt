@@ -1,4 +1,4 @@
--- A run comes to no exchange whose sixteen words don't lie in memory, if those of all its requests do.
+-- A run reaches no exchange whose sixteen words aren't within memory, if the words of all its requests are.
 use Rattle.std.proofs.Common.{◌≡◌, ℕ, zero, suc, Bool, true, false, ◌&&◌, cond, List, [], ◌∷◌, ◌++◌}
 use Rattle.std.proofs.Common.{Option, Some, None, length, refl, sym, ap, subst, ◌∙◌}
 use Rattle.std.specs.Prelude.{All, IfSome, nat_le, nat_lt}
@@ -19,7 +19,7 @@ use Rattle.sequential_run.specs.Turns.{turn_by, turns}
 use Rattle.sequential_run.proofs.Ending.{turns_replay}
 use Rattle.sequential_run.proofs.Ordered.{tie, tied}
 
--- the packages of the requests of a list lie in a memory of this size
+-- the packages of all requests of a list are within a memory of this size
 abbrev AllLie : ℕ → List (ℕ × ℕ) → Type 0
 AllLie size asks = All (λ ask. Lies size ask.0) asks
 
@@ -34,26 +34,26 @@ module _ (P : ℕ × ℕ → Type 0) where
   rest_kept true x xs h = All-tail P x xs h
   rest_kept false x xs h = h
 
-  -- each request is among those that tie with it
+  -- each request is among those with the same number of instructions
   all_by_ties : (asks : List (ℕ × ℕ)) → ((z : ℕ × ℕ) → All P (filter (tie z) asks)) → All P asks
   all_by_ties [] h = All-nil P
   all_by_ties (x ∷ asks) h =
       All-cons P x asks (first_kept (tie x x) x (filter (tie x) asks) (tied x x refl) (h x))
       (all_by_ties asks (λ z. rest_kept (tie z x) x (filter (tie z) asks) (h z)))
 
-  -- what holds of each given request holds of each in order
+  -- a property of each given request holds for each ordered request
   all_ordered : (given asks : List (ℕ × ℕ)) → KeepsTies given asks → All P given → All P asks
   all_ordered given asks k h = all_by_ties asks (λ z. subst (All P) (sym (k z)) (All-filter (tie z) P given h))
 
 -- ---- turn by turn ----
 
--- the packages of the request that waits and of those still to be made lie in a memory of this size
+-- the packages of the waiting request and of the remaining requests are within a memory of this size
 record Fits (size : ℕ) (m : Moment) : Type 0 where
   pub waiting : IfSome m.waiting (Lies size)
   pub asks : AllLie size m.asks
   pub free : All (Lies size) m.free
 
--- so does that of what is done next
+-- the package of the next turn is within memory
 abbrev TurnFits : ℕ → Turn → Type 0
 TurnFits size (Exchanges n) = Lies size n
 TurnFits size (Asks n) = Lies size n
@@ -128,7 +128,7 @@ turns_size budget n memory asks free =
     (turns budget n (begun memory asks free)).state
     (turns_replay budget n (boot memory) (begun memory asks free) refl)
 
--- no run comes to an exchange whose sixteen words don't lie in memory, if those of all its requests do
+-- a run reaches no exchange whose sixteen words aren't within memory, if the words of all its requests are
 pub never_unfit : (memory : List ℕ) (start : ℕ) (after : List (ℕ × ℕ)) (free : List ℕ) (budget : ℕ)
     → package_fits start (length memory) ≡ true → All (λ ask. package_fits ask.0 (length memory) ≡ true) after
     → All (λ at. package_fits at (length memory) ≡ true) free → IsUnfitRun memory start after free budget → ⊥

@@ -1,4 +1,4 @@
--- What is answered if no deck was read.
+-- The answers if no deck was read.
 use Rattle.std.proofs.Common.{ℕ, List, Option, Err, inl, inr}
 use Rattle.std.proofs.KnownBytes.{Keeps-refl}
 use Rattle.instructions.specs.declared.refusal.Refusal.{Refusal}

@@ -60,7 +60,7 @@ after_first budget n memory start rest free =
     ap (λ t. turns budget n (take_turn (begun memory ((start, 0) ∷ rest) free) t))
     (first_turn budget memory start rest free)
 
--- the moment after the second turn, as the package lies in memory or not
+-- the moment after the second turn, with the package within memory or not
 abbrev entered : Bool → List ℕ → ℕ → List (ℕ × ℕ) → List ℕ → Moment
 entered b memory start rest free =
     let m = asked memory start rest free in
@@ -73,7 +73,7 @@ unfolding turns take_turn
 after_second budget n memory start rest free =
     ap (λ t. turns budget n (take_turn (asked memory start rest free) t)) (second_turn budget memory start rest free)
 
--- an exchange whose package doesn't lie in memory comes again and again
+-- an exchange whose package isn't within memory is tried again and again
 comes_again : (budget n : ℕ) (memory : List ℕ) (start : ℕ) (rest : List (ℕ × ℕ)) (free : List ℕ)
     → package_fits start (length (boot memory).memory) ≡ false
     → turns budget n (asked memory start rest free) ≡ asked memory start rest free

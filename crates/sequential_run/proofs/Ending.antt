@@ -1,12 +1,10 @@
 -- A run to its end.
-use Rattle.std.proofs.Common.{◌≡◌, ◌<◌, ◌≤◌, ◌+◌, ℕ, zero, suc, Bool, true, false, cond, List, [], ◌∷◌, ◌++◌}
+use Rattle.std.proofs.Common.{◌≡◌, ◌≤◌, ◌+◌, ℕ, zero, suc, Bool, true, false, cond, List, [], ◌∷◌, ◌++◌}
 use Rattle.std.proofs.Common.{◌&&◌, ◌||◌, Option, Some, None, is_some, not}
 use Rattle.std.proofs.Common.{length, refl, sym, ap, subst, ◌∙◌, arith, le-leb}
 use Rattle.std.proofs.lemmas.Bool.{ltb-false}
 use Rattle.std.specs.Prelude.{option_and_then, is_none, nat_le, nat_lt}
 use Rattle.exchange_requests.specs.Fulfilled.{IsFulfilled}
-use Rattle.instructions.specs.declared.refusal.Refusal.{Refusal}
-use Rattle.instructions.specs.declared.refusal.Refusal.TheVariants.{OutOfMemory, PackageRange}
 use Rattle.program_order.proofs.theorem.Headline.{replay_faulted}
 use Rattle.relocation.specs.Relocation.{package_fits}
 use Rattle.sequential.specs.declared.state.State.{State}
@@ -18,8 +16,8 @@ use Rattle.sequential_run.specs.declared.course.Course.{Course}
 use Rattle.sequential_run.specs.Turns.{Moment, Turn, Exchanges, Asks, AsksFree, Issues, Ends}
 use Rattle.sequential_run.specs.Turns.{is_going, is_in_mid_word, issue_or_end, first_due, turn_by, next_turn, take_turn}
 use Rattle.sequential_run.specs.Turns.{turns, begun}
-use Rattle.sequential_run.specs.inner.Course.{IsKept, IsBegun, Goes, Went, IsWhyRefused, left_at, moment_of}
-use Rattle.sequential_run.specs.Run.{EndsAt, IsUnfit, IsRun, IsSequentialRun, IsWhyNoRun, is_over}
+use Rattle.sequential_run.specs.inner.Course.{IsKept, IsBegun, Goes, Went, moment_of}
+use Rattle.sequential_run.specs.Run.{EndsAt, IsRun, IsSequentialRun, is_over}
 use Rattle.sequential_run.proofs.Turning.{more_turns}
 
 -- ---- the log leads to the state ----
@@ -67,7 +65,7 @@ run_replays memory start after free budget log s r =
     ∙ subst (λ m. replay (boot memory) m.log ≡ Some m.state) r.ends.reached h
     ∙ ap Some (sym r.state_is)
 
--- a run issues no more only where it is over
+-- a run issues no more instructions only if it is over
 none_left : {H : Type 0} (halt : Option H) (fault : Bool) (budget n : ℕ)
     → cond (is_none halt && not fault && nat_lt n budget) Issues Ends ≡ Ends
     → (is_some halt || (fault || nat_le budget n)) ≡ true
@@ -79,7 +77,7 @@ none_left None false budget n e = by_test (nat_lt n budget) refl e
     by_test true t k = cc
     by_test false t k = le-leb budget n (ltb-false n budget t)
 
--- a turn that does nothing is that of a machine that issues no more
+-- a turn that does nothing belongs to a machine that issues no more
 no_turn : (waiting : Option ℕ) (mid : Bool) (due : Option ℕ) (free : List ℕ) (go : Turn)
     → turn_by waiting mid due free go ≡ Ends → go ≡ Ends
 unfolding turn_by
@@ -95,14 +93,14 @@ ends_over budget m e = none_left m.state.halt m.state.fault budget (issued m.log
     (no_turn m.waiting (is_in_mid_word m.state) (first_due (issued m.log) m.asks) m.free
     (issue_or_end budget m.state (issued m.log)) e)
 
--- a law of the definition: a run is over at its end
+-- a law of the definition: at its end a run is over
 pub run_over : (memory : List ℕ) (start : ℕ) (after : List (ℕ × ℕ)) (free : List ℕ) (budget : ℕ)
     (log : List LogStep) (s : State) → IsSequentialRun memory start after free budget log s
     → is_over s log budget ≡ true
 run_over memory start after free budget log s r =
     rw r.log_is (rw r.state_is (ends_over budget r.last r.ends.ends))
 
--- what begins so, replays on this memory within the budget, and is over, has what every run promises
+-- a run that begins so, replays on this memory within the budget, and is over, keeps all promises of a run
 pub run_on : (memory other : List ℕ) (start : ℕ) (after : List (ℕ × ℕ)) (free : List ℕ) (budget : ℕ)
     (log : List LogStep) (s : State) → other ≡ memory
     → (more : List LogStep) × (log ≡ Exchanged start ∷ more) → IsFulfilled start after free (is_in_mid_word s) log
@@ -121,7 +119,7 @@ run_on memory other start after free budget log s same begins fulfilled within o
 
 -- ---- turn by turn ----
 
--- some turns led from one moment to another
+-- some turns lead from one moment to another
 pub record Led (budget : ℕ) (m n : Moment) : Type 0 where
   pub count : ℕ
   pub reached : turns budget count m ≡ n
@@ -142,11 +140,6 @@ pub led_on : (budget : ℕ) (on : Bool) (m n o : Moment) → on ≡ true → Led
 led_on budget true m n o e l w = led_more budget m n o l w
 led_on budget false m n o e l w = cc
 
-pub led_less : (budget : ℕ) (on : Bool) (n o : Moment) → on ≡ true → Went budget on n o
-    → left_at budget o < left_at budget n
-led_less budget true n o e w = w.less
-led_less budget false n o e w = cc
-
 pub led_to_end : (budget : ℕ) (m n o : Moment) → Led budget m n → (next_turn budget n ≡ Ends) × (o ≡ n)
     → EndsAt budget m o
 led_to_end budget m n o l e = record {
@@ -159,25 +152,6 @@ pub led_off : (budget : ℕ) (on : Bool) (m n o : Moment) → on ≡ false → L
     → EndsAt budget m o
 led_off budget true m n o e l w = cc
 led_off budget false m n o e l w = led_to_end budget m n o l w
-
--- why a run from this moment has no end: memory ran out, or E19, package range
-abbrev pub IsRefusedAfter : ℕ → Moment → Refusal → Type 0
-IsRefusedAfter budget first OutOfMemory = Unit {0}
-IsRefusedAfter budget first PackageRange = IsUnfit budget first
-IsRefusedAfter budget first other = ⊥
-
-pub led_to_refusal : (budget : ℕ) (m n : Moment) (r : Refusal) → Led budget m n → IsWhyRefused budget n r
-    → IsRefusedAfter budget m r
-led_to_refusal budget m n OutOfMemory l e = tt
-led_to_refusal budget m n PackageRange l e = record {
-  count = l.count;
-  last = n;
-  reached = l.reached;
-  at = e.0;
-  exchanges = e.1;
-  unfit = e.2;
-}
-led_to_refusal budget m n other l e = absurd e
 
 -- ---- from the beginning ----
 
@@ -204,14 +178,3 @@ run_ended memory start after free budget c d b e = record {
   log_is = refl;
   state_is = refl;
 }
-
-pub run_refused : (memory : List ℕ) (start : ℕ) (after : List (ℕ × ℕ)) (free : List ℕ) (budget : ℕ) (c : Course)
-    (r : Refusal) → IsBegun memory start after free c → IsRefusedAfter budget (moment_of c) r
-    → IsWhyNoRun memory start after free budget r
-run_refused memory start after free budget c OutOfMemory b e = tt
-run_refused memory start after free budget c PackageRange b e = record {
-  asks = c.requests.asks;
-  ordered = b.ordered;
-  unfit = subst (λ m. IsRefusedAfter budget m PackageRange) b.moment e;
-}
-run_refused memory start after free budget c other b e = absurd e

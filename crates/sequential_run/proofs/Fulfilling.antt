@@ -10,7 +10,7 @@ use Rattle.exchange_requests.proofs.Counting.{exchanges_append}
 use Rattle.relocation.specs.Relocation.{package_fits}
 use Rattle.sequential.specs.declared.state.State.{State}
 use Rattle.sequential.specs.Log.{issued}
-use Rattle.sequential.specs.Replay.{LogStep, Issued, Exchanged, ReadAt, Wrote}
+use Rattle.sequential.specs.Replay.{LogStep, Issued, Exchanged}
 use Rattle.sequential.specs.Step.{step}
 use Rattle.sequential.specs.Swap.{swap}
 use Rattle.sequential.proofs.Entries.{issued-more}
@@ -46,13 +46,13 @@ abbrev IsComing : ℕ → ℕ → List (ℕ × ℕ) → Type 0
 IsComing last now [] = Unit {0}
 IsComing last now (ask ∷ asks) = (last < ask.1) × (now ≤ ask.1)
 
--- no instruction was done since the last exchange, and the machine isn't in the middle of a word
+-- since the last exchange no instruction was done, and the machine isn't in the middle of a word
 record IsFresh (last : ℕ) (m : Moment) : Type 0 where
   now : issued m.log ≡ last
   out : is_in_mid_word m.state ≡ false
 
--- since a request was made after `made` instructions, at most three instructions were done, and in the middle of a word
--- fewer than the parcels before the next instruction
+-- since the request was made, after `made` instructions, at most three instructions were done; in the middle of a word,
+-- fewer than there are parcels before the next instruction
 record IsTimely (made : ℕ) (m : Moment) : Type 0 where
   most : issued m.log ≤ made + 3
   mid : is_in_mid_word m.state ≡ true → issued m.log < made + m.state.position.parcel
@@ -63,7 +63,7 @@ record IsIdle (last : ℕ) (left : List (ℕ × ℕ)) (spare : List ℕ) (m : Mo
   free : spare ≡ m.free
   next : IsFresh last m ⊎ IsComing last (issued m.log) m.asks
 
--- a request after a number of instructions waits
+-- a request after a number of instructions is waiting
 record WaitsAfter (n last : ℕ) (left : List (ℕ × ℕ)) (spare : List ℕ) (m : Moment) : Type 0 where
   after : ℕ
   asks : left ≡ (n, after) ∷ m.asks
@@ -71,7 +71,7 @@ record WaitsAfter (n last : ℕ) (left : List (ℕ × ℕ)) (spare : List ℕ) (
   due : after ≤ issued m.log
   since : IsFresh last m ⊎ ((last < after) × IsTimely after m)
 
--- a request at any time waits
+-- a request at any time is waiting
 record WaitsFree (n last : ℕ) (left : List (ℕ × ℕ)) (spare : List ℕ) (m : Moment) : Type 0 where
   made : ℕ
   asks : left ≡ m.asks
@@ -84,14 +84,13 @@ abbrev Stands : Option ℕ → ℕ → List (ℕ × ℕ) → List ℕ → Moment
 Stands None last left spare m = IsIdle last left spare m
 Stands (Some n) last left spare m = WaitsAfter n last left spare m ⊎ WaitsFree n last left spare m
 
--- exchanges that fulfil the requests left after this log, together with those of the log fulfil all requests
+-- exchanges for the remaining requests, together with those of this log, fulfil all requests
 abbrev Completes : List (ℕ × ℕ) → List ℕ → List LogStep → ℕ → List (ℕ × ℕ) → List ℕ → Type 0
 Completes asks free log last left spare = (mid : Bool) (total : ℕ) (es : List (ℕ × ℕ))
     → fulfils mid total last left spare es ≡ true
     → fulfils mid total 0 asks free (exchanges_after 0 log ++ es) ≡ true
 
--- these requests are left at a moment, and all others have had their exchanges, the last of them after `last`
--- instructions
+-- these requests remain at a moment; all others have had their exchanges, the last of them after `last` instructions
 record Keeps (asks : List (ℕ × ℕ)) (free : List ℕ) (m : Moment) : Type 0 where
   last : ℕ
   left : List (ℕ × ℕ)
@@ -116,7 +115,7 @@ coming_by : (last now : ℕ) (asks : List (ℕ × ℕ)) → last ≤ now → IsA
 coming_by last now [] l h = tt
 coming_by last now (ask ∷ asks) l h = (omega (arith, l, h), omega (arith, h))
 
--- the request that is due is the first one
+-- the due request is the first one
 record IsFirst (n now : ℕ) (asks : List (ℕ × ℕ)) : Type 0 where
   after : ℕ
   first : asks ≡ (n, after) ∷ drop 1 asks
@@ -163,7 +162,7 @@ made_on asks free log n last left next spare others on made mid total es h =
     ∙ ap (fulfils mid total 0 asks free) (append_assoc (exchanges_after 0 log) ((n, issued log) ∷ []) es)
     ∙ on mid total ((n, issued log) ∷ es) (made mid total es h)
 
--- an exchange of the first request after a number of instructions
+-- an exchange for the first request after a number of instructions
 made_after : (mid : Bool) (total last n now after : ℕ) (rest : List (ℕ × ℕ)) (spare : List ℕ) (es : List (ℕ × ℕ))
     → after ≤ now → (nat_eq now last || is_in_time last now ((n, after) ∷ rest)) ≡ true
     → fulfils mid total now rest spare es ≡ true
@@ -173,7 +172,7 @@ made_after mid total last n now after rest spare es d t h =
     or_left _ _ (and_from _ _
     (and_from _ _ (eq-eqb n n refl) (and_from _ _ (le-leb after now d) t)) h)
 
--- an exchange of the first request at any time
+-- an exchange for the first request at any time
 made_free : (mid : Bool) (total last n now : ℕ) (left : List (ℕ × ℕ)) (rest : List ℕ) (es : List (ℕ × ℕ))
     → is_in_time last now left ≡ true → fulfils mid total now left rest es ≡ true
     → fulfils mid total last left (n ∷ rest) ((n, now) ∷ es) ≡ true
@@ -254,7 +253,7 @@ timely_step made m h p t =
           omega (arith, e, l, a);
     }
 
--- in the middle of a word the request that waits goes on waiting
+-- in the middle of a word the request keeps waiting
 waiting_step : (n last : ℕ) (left : List (ℕ × ℕ)) (spare : List ℕ) (m : Moment) → is_in_mid_word m.state ≡ true
     → IsPlaced m.state → Stands (Some n) last left spare m → Stands (Some n) last left spare (stepped m)
 waiting_step n last left spare m h p (inl w) = inl (record {
@@ -279,7 +278,7 @@ waiting_step n last left spare m h p (inr w) = inr (record {
   timely = timely_step w.made m h p w.timely;
 })
 
--- no request waits, and none is due, so that an instruction is done
+-- no request waits or is due, so an instruction is done
 idle_step : (last : ℕ) (left : List (ℕ × ℕ)) (spare : List ℕ) (m : Moment) → last ≤ issued m.log
     → first_due (issued m.log) m.asks ≡ None → IsIdle last left spare m → IsIdle last left spare (stepped m)
 idle_step last left spare m b d i = record {
@@ -348,7 +347,7 @@ fitted : (asks : List (ℕ × ℕ)) (free : List ℕ) (n : ℕ) (m : Moment) (b 
 fitted asks free n m true k e = e
 fitted asks free n m false k e = k
 
--- an instruction or the end
+-- an instruction, or the end
 gone : (asks : List (ℕ × ℕ)) (free : List ℕ) (m : Moment) (b : Bool) → Keeps asks free m
     → Keeps asks free (stepped m) → Keeps asks free (take_turn m (cond b Issues Ends))
 unfolding take_turn
@@ -422,7 +421,7 @@ unfolding are_done
 done_by total [] h = refl
 done_by total (ask ∷ asks) h = lt-ltb total ask.1 h
 
--- at the end no request is left
+-- at the end no request remains
 ends_idle : (last : ℕ) (left : List (ℕ × ℕ)) (spare : List ℕ) (m : Moment) → first_due (issued m.log) m.asks ≡ None
     → m.free ≡ [] → IsIdle last left spare m
     → fulfils (is_in_mid_word m.state) (issued m.log) last left spare [] ≡ true
@@ -432,7 +431,7 @@ ends_idle last left spare m d f i =
     ∙ ap (λ l. are_done (issued m.log) m.asks l) (i.free ∙ f)
     ∙ done_by (issued m.log) m.asks (ahead_by (issued m.log) m.asks d))
 
--- or the end is in the middle of a word, and a request waits
+-- or the end comes in the middle of a word while a request waits
 ends_by : (mid : Bool) (total last : ℕ) (left : List (ℕ × ℕ)) (spare : List ℕ) → mid ≡ true
     → is_in_time last total left ≡ true → fulfils mid total last left spare [] ≡ true
 unfolding fulfils

@@ -1,4 +1,4 @@
--- How a run goes on, as its code keeps it.
+-- The progress of a run, as its code keeps it.
 use Rattle.std.proofs.Common.{◌≡◌, ◌<◌, ◌≤◌, ◌+◌, ◌-◌, ℕ, zero, suc, Bool, true, false, ◌&&◌, cond, List, [], ◌∷◌}
 use Rattle.std.proofs.Common.{◌++◌, Option, Some, None, length, is_some, refl, sym, ap, ◌∙◌, arith, ltb-true}
 use Rattle.std.specs.Prelude.{drop, min, replicate, nat_lt}
@@ -20,7 +20,7 @@ use Rattle.sequential_run.proofs.Turning.{same_moment, one_turn, exchange_next, 
 use Rattle.sequential_run.proofs.Turning.{IsQuiet}
 use Rattle.sequential_run.proofs.Turning.{issues_turns, due_first, none_due}
 
--- one more turn where a request waits
+-- one more turn if a request waits
 abbrev one_if : Option ℕ → ℕ
 one_if o = cond (is_some o) 1 0
 
@@ -190,12 +190,12 @@ issue_keeps budget count c log d k same made most =
       idle = λ w. ap (λ r. r.is_waiting) made.requests ∙ k.idle (sym (ap is_some made.same.1) ∙ w);
     }
 
--- room for so many in the last count
+-- the last count has room for this many instructions
 pub last_fits : (log : List LogStep) (count made : ℕ) → issued log + count < 18446744073709551616 → made ≤ count
     → last_run log + made < 18446744073709551616
 last_fits log count made l m = let h = last_run_within log in omega (arith, l, m, h)
 
--- how many instructions the budget has left
+-- the number of instructions left in the budget
 counted_now : (budget issues : ℕ) (xs ys : List LogStep) → xs ≡ ys → issues ≡ min (issued xs) 18446744073709551615
     → issued ys ≤ budget → budget < 18446744073709551616 → issues ≡ issued ys
 counted_now budget issues xs ys e i w b = let f : issued xs ≡ issued ys = ap issued e in omega (arith, f, i, w, b)

@@ -1,4 +1,4 @@
--- The events that make a run by one instruction at a time.
+-- The events of a run that does one instruction at a time.
 use Rattle.std.proofs.Common.{◌≡◌, ◌<◌, ◌≤◌, ◌+◌, ℕ, zero, suc, Bool, true, false, ◌&&◌, not, cond, List, [], ◌∷◌, ◌++◌}
 use Rattle.std.proofs.Common.{Option, Some, None, length, is_some, is_none, refl, sym, ap, subst, ◌∙◌, arith, inl}
 use Rattle.std.proofs.Common.{ltb-true, leb-true, ◌||◌}
@@ -44,7 +44,7 @@ use Rattle.sequential_run.specs.Made.{IsMadeByEvents}
 
 -- ---- a machine that was reached ----
 
--- events lead to the machine
+-- events lead to this machine
 pub record Reaches (memory : List ℕ) (budget : ℕ) (w : Processor) : Type 0 where
   pub events : List Event
   pub answers : List (Result Done Refusal)
@@ -55,7 +55,7 @@ answered : (w : Processor) (e : Event) → allowed w e ≡ None → IsAnswer w e
 unfolding answer_of answer_by
 answered w e h = inl (ap (answer_by (done_by w e)) (sym h))
 
--- an event that is allowed leads on
+-- an allowed event leads on
 reaches_on : (memory : List ℕ) (budget : ℕ) (w : Processor) (e : Event) → Reaches memory budget w → allowed w e ≡ None
     → Reaches memory budget (after w e)
 unfolding settled
@@ -69,7 +69,7 @@ reaches_on memory budget w e r h = record {
 
 -- ---- draining ----
 
--- from one machine another is reached, which is drained and has the same log and requests
+-- the machine leads to a drained machine with the same log and requests
 pub record Drains (memory : List ℕ) (budget : ℕ) (w : Processor) : Type 0 where
   pub last : Processor
   pub reaches : Reaches memory budget last
@@ -133,11 +133,11 @@ drains (suc n) memory budget w r l =
 
 -- ---- at a moment of a run ----
 
--- how many requests may still be made
+-- the number of requests that may still be made
 abbrev pub requests_left : Moment → ℕ
 requests_left m = length m.asks + length m.free + length (option_to_list m.waiting)
 
--- a drained machine is reached, which stands where the run does
+-- a drained machine in the state of the run is reached
 pub record Stands (memory : List ℕ) (budget : ℕ) (m : Moment) : Type 0 where
   pub last : Processor
   pub reaches : Reaches memory budget last
@@ -150,10 +150,6 @@ pub record Stands (memory : List ℕ) (budget : ℕ) (m : Moment) : Type 0 where
   pub asked : last.asked + requests_left m ≤ 1000000
 
 -- ---- what the next turn tells ----
-
-is_issues : Turn → Bool
-is_issues Issues = true
-is_issues other = false
 
 issues_by : (o : Option ℕ) (mid : Bool) (due : Option ℕ) (free : List ℕ) (go : Turn)
     → turn_by o mid due free go ≡ Issues → go ≡ Issues
@@ -281,7 +277,7 @@ ask_allowed w n l r f = none_refuses (nat_le 1000000 w.asked) (is_some w.request
     few false e = refl
     few true e = let k : 1000000 ≤ w.asked = leb-true 1000000 w.asked e in absurd (omega (arith, k, l))
 
--- the machine with the request
+-- the machine with the request waiting
 abbrev pub with_request : Processor → ℕ → Processor
 with_request w n = record w { request = Some n; asked = suc w.asked }
 

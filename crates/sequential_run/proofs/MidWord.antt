@@ -1,4 +1,4 @@
--- How long the machine stays in the middle of a word.
+-- How long a machine stays in the middle of a word.
 use Rattle.std.proofs.Common.{◌≡◌, ◌<◌, ◌≤◌, ◌+◌, ◌-◌, ◌%◌, ◌^◌, ℕ, Bool, true, false, cond, List, [], ◌∷◌}
 use Rattle.std.proofs.Common.{Option, Some, None, is_some, refl, sym, ap, subst, ◌∙◌, ltb, ltb-true, ltb-false, arith}
 use Rattle.std.proofs.lemmas.Bool.{and_parts}
@@ -74,7 +74,7 @@ on_by_table word parcel (Legal i next) t = by_test (ltb parcel next) refl
 on_by_table word parcel (Refused op) t = tt
 on_by_table word parcel Straddle t = tt
 
--- a fetch that doesn't halt the machine leads to a later parcel
+-- after a fetch that doesn't halt the machine, the next parcel is later
 abbrev GoesLater : ℕ → Fetched → Type 0
 GoesLater parcel (Halting halt position) = position.parcel < 4
 GoesLater parcel (Passing position) = IsLater parcel position

@@ -1,4 +1,4 @@
--- The requests of a run in the order in which they are made: they have one order, and are as many as were given.
+-- The ordered requests of a run: there is one order, and it has as many requests as were given.
 use Rattle.std.proofs.Common.{◌≡◌, ◌<◌, ◌≤◌, ℕ, suc, Bool, true, false, ◌&&◌, not, cond, List, [], ◌∷◌}
 use Rattle.std.proofs.Common.{length, refl, sym, ap, ◌∙◌, arith, ltb, ltb-false, le-ltb, ◌==◌}
 use Rattle.std.specs.Prelude.{drop, slice_index_or}
@@ -11,7 +11,7 @@ use Rattle.exchange_requests.specs.Requests.{IsInOrder, KeepsTies}
 
 -- ---- requests after equally many instructions ----
 
--- two requests are made after equally many instructions
+-- two requests come after the same number of instructions
 abbrev pub tie : ℕ × ℕ → ℕ × ℕ → Bool
 tie x z = ties (λ a b. is_lt (nat_cmp a.1 b.1)) x z
 
@@ -42,7 +42,7 @@ tie_key x z h =
     let b : x.1 ≤ z.1 = ltb-false z.1 x.1 n.1 in
     omega (arith, a, b)
 
--- a request that is among them is after no fewer than all are
+-- a request of the list comes after at least as many instructions as the least one
 least : (xs : List (ℕ × ℕ)) (low : ℕ) (z : ℕ × ℕ)
     → ((k : ℕ) (d : ℕ × ℕ) → k < length xs → low ≤ (slice_index_or xs k d).1)
     → 0 < length (filter (tie z) xs) → low ≤ z.1
@@ -98,7 +98,7 @@ one_order (x ∷ xs) (y ∷ ys) o p h =
     ∙ ap (λ l. y ∷ l) (one_order xs ys (IsNonDecreasingBy-drop (λ ask. ask.1) 1 (x ∷ xs) o)
     (IsNonDecreasingBy-drop (λ ask. ask.1) 1 (y ∷ ys) p) tails)
 
--- the request for the first package, which is after no instruction, stands first
+-- the request for the first package, after no instruction, comes first
 pub start_first : (start : ℕ) (after xs : List (ℕ × ℕ)) → IsInOrder xs
     → ((z : ℕ × ℕ) → filter (tie z) xs ≡ filter (tie z) ((start, 0) ∷ after))
     → (rest : List (ℕ × ℕ)) × (xs ≡ (start, 0) ∷ rest)
@@ -120,7 +120,7 @@ start_first start after (x ∷ xs) o h =
 apart : true ≡ false → ⊥
 apart h = cc
 
--- without the first of those that are made after as many instructions as this one
+-- the list without the first request that comes after as many instructions as this one
 without : ℕ × ℕ → List (ℕ × ℕ) → List (ℕ × ℕ)
 without z [] = []
 without z (x ∷ xs) = cond (tie z x) xs (x ∷ without z xs)
@@ -142,7 +142,7 @@ tie_first y z x e = tie_is y x ∙ ap (λ n. not (ltb n x.1) && not (ltb x.1 n))
 tie_second : (y z x : ℕ × ℕ) → z.1 ≡ x.1 → tie y x ≡ tie y z
 tie_second y z x e = tie_is y x ∙ ap (λ n. not (ltb y.1 n) && not (ltb n y.1)) (sym e) ∙ sym (tie_is y z)
 
--- where it is among those that are looked for, one less of them is left
+-- the list with one such request less
 rest_of : Bool → List (ℕ × ℕ) → List (ℕ × ℕ)
 rest_of true l = drop 1 l
 rest_of false l = l
@@ -172,7 +172,7 @@ ties_without y z (x ∷ xs) = by_ties (tie y z) (tie z x) (tie y x) refl refl re
         ap (λ b. cond b (x ∷ filter (tie y) (without z xs)) (filter (tie y) (without z xs))) f
         ∙ ap (λ l. cond c (x ∷ l) l) more
 
--- two lists with the same requests after equally many instructions have as many of them
+-- two lists with the same requests for each number of instructions have the same length
 pub same_count : (xs ys : List (ℕ × ℕ)) → ((z : ℕ × ℕ) → filter (tie z) xs ≡ filter (tie z) ys)
     → length xs ≡ length ys
 unfolding rest_of
@@ -195,6 +195,6 @@ same_count (x ∷ xs) ys h =
         of_tie true f = ap (λ t. drop 1 (cond t (x ∷ filter (tie z) xs) (filter (tie z) xs))) (sym f)
         of_tie false f = ap (λ t. cond t (x ∷ filter (tie z) xs) (filter (tie z) xs)) (sym f)
 
--- the requests of a run in their order are as many as those that were given
+-- an ordered list has as many requests as were given
 pub kept_count : (given asks : List (ℕ × ℕ)) → KeepsTies given asks → length asks ≡ length given
 kept_count given asks same = same_count asks given same

@@ -1,4 +1,4 @@
--- The turns of a run, one by one and many.
+-- The turns of a run, one by one and together.
 use Rattle.std.proofs.Common.{◌≡◌, ◌<◌, ◌≤◌, ◌+◌, ℕ, zero, suc, Bool, true, false, ◌&&◌, cond, List, [], ◌∷◌}
 use Rattle.std.proofs.Common.{◌++◌, Option, Some, None, is_some, refl, sym, ap, subst, ◌∙◌, append_assoc}
 use Rattle.std.proofs.Common.{append-nil, add-one, arith, lt-ltb, le-leb}
@@ -33,7 +33,7 @@ steps_more n s t u h g e =
 
 -- ---- one turn ----
 
--- two moments with the same parts are one
+-- two moments with equal parts are equal
 pub same_moment : (a b : Moment) → a.state ≡ b.state → a.log ≡ b.log → a.asks ≡ b.asks → a.free ≡ b.free
     → a.waiting ≡ b.waiting → a ≡ b
 same_moment a b s l q f w =
@@ -82,7 +82,7 @@ free_next budget m n ns w h f =
     ∙ ap (λ o. turn_by None (is_in_mid_word m.state) o m.free (issue_or_end budget m.state (issued m.log))) h
     ∙ ap (λ l. turn_by None (is_in_mid_word m.state) None l (issue_or_end budget m.state (issued m.log))) f
 
--- nothing comes before an instruction
+-- nothing comes before the next instruction
 pub record IsQuiet (m : Moment) : Type 0 where
   pub mid : is_some m.waiting ≡ true → is_in_mid_word m.state ≡ true
   pub free : is_some m.waiting ≡ false → m.free ≡ []
@@ -128,7 +128,7 @@ none_due (ask ∷ asks) done d =
 
 -- ---- instructions one after another ----
 
--- for so many instructions nothing comes before the next one
+-- nothing comes before each of the next n instructions
 pub record IsQuietFor (n : ℕ) (m : Moment) : Type 0 where
   pub mid : is_some m.waiting ≡ true → 0 < n → (n ≤ 1) × (is_in_mid_word m.state ≡ true)
   pub free : is_some m.waiting ≡ false → m.free ≡ []

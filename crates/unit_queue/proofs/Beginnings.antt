@@ -1,5 +1,5 @@
--- Beginnings of lists of items.
-use Rattle.std.proofs.Common.{◌≡◌, List, [], ◌∷◌, ◌++◌, length, sym, ap, ◌∙◌, refl, subst, append_assoc}
+-- Prefixes of lists of items.
+use Rattle.std.proofs.Common.{◌≡◌, List, [], ◌∷◌, ◌++◌, length, sym, ap, ◌∙◌, refl, append_assoc}
 use Rattle.std.proofs.lemmas.List.{append-nil}
 use Rattle.unit_queue.specs.declared.item.Item.{Item}
 use Rattle.unit_queue.specs.Lanes.{IsBeginning}
@@ -19,9 +19,3 @@ none_left (x ∷ xs) none = absurd (cc)
 
 pub nothing_more : (first rest all : List Item) → all ≡ first ++ rest → rest ≡ [] → all ≡ first
 nothing_more first rest all is none = is ∙ ap (λ l. first ++ l) none ∙ append-nil first
-
--- where nothing waits, what begins all begins what is before it
-pub begins_all : (first all waiting : List Item) → length waiting ≡ 0 → IsBeginning first (all ++ waiting)
-    → IsBeginning first all
-begins_all first all waiting none h =
-    subst (IsBeginning first) (nothing_more all waiting (all ++ waiting) refl (none_left waiting none)) h

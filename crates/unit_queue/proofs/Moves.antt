@@ -155,7 +155,7 @@ forks port v a b items views h at =
           )) (at_snoc vs r u j e),
     )
 
--- the taker takes in the sender
+-- the taker merges with the sender
 pub merges : (port : ℕ) (v : LaneView) (other : ℕ) (u : LaneView) → v.takes ≡ true → u.sends ≡ true
     → Merges IsKept port v other u (view_of true true u.sent v.got) (view_of false false [] [])
 merges port v other u a b items views h at two at' =
@@ -180,7 +180,7 @@ merges port v other u a b items views h at two at' =
           (λ j y apart e. now j y e apart),
     )
 
--- after Closed was taken, nothing waits
+-- after `Closed` was taken, no item waits
 pub ends : (port : ℕ) (v : LaneView) → v.takes ≡ true → is_closed v.got ≡ true → Pops IsKept port v (λ x w. ⊥)
 ends port v may closed x items views h at =
     let here : v.got ≡ h.3 = ((h.6 port v at).1 may).1 in
@@ -202,13 +202,13 @@ pushed v w x still h =
       subst IsOrderly (sym (ap (λ (u : LaneView). u.sent) is)) (order_push v.sent x still),
     )
 
--- what was taken is closed by what was taken last
+-- the items taken are closed if the last one is `Closed`
 pub took : (v w : LaneView) (nothing : Type 0) (found : Option Item) → MatchOption found nothing (λ x. IsTaken v x w)
     → IfSome found (λ x. is_closed w.got ≡ is_closing x)
 took v w nothing None h = tt
 took v w nothing (Some x) h = is_closed-next v.got w.got x h.5 (ap (λ (u : LaneView). u.got) h.1)
 
--- what was taken is in order
+-- the items taken are in order
 pub took_in_order : (v w : LaneView) (fact : Type 0) (found : Option Item) → IsOrderly v.sent → IsBeginning v.got v.sent
     → MatchOption found ((w ≡ v) × fact) (λ x. IsTaken v x w) → IsOrderly w.got
 took_in_order v w fact None order begun h =
@@ -217,7 +217,7 @@ took_in_order v w fact (Some x) order begun h =
     subst (λ (u : LaneView). IsOrderly u.got) (sym h.1)
     (order_front (v.got ++ x ∷ []) h.2.0 (subst IsOrderly h.2.1 h.4))
 
--- after Closed was taken, the taker that takes in the sender knows what it knew
+-- after `Closed` was taken, merging with the sender adds nothing to the taker's knowledge
 pub settled : (v u both w : LaneView) (found : Option Item) → both ≡ view_of true true u.sent v.got
     → MatchOption found ((w ≡ both) × Held 0 (λ items. both.sent ≡ both.got ++ items)) (λ x. ⊥)
     → is_closed v.got ≡ true → IsOrderly v.sent → IsBeginning v.got v.sent → (w.got ≡ v.got) × (w.sent ≡ v.sent)

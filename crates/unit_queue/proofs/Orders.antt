@@ -1,4 +1,4 @@
--- Nothing comes after Closed: how that stays so.
+-- No item comes after `Closed`: how calls keep this.
 use Rattle.std.proofs.Common.{◌≡◌, Bool, true, false, true≢false, ◌||◌, List, [], ◌∷◌, ◌++◌, refl, sym, ap, ◌∙◌}
 use Rattle.unit_queue.specs.declared.item.Item.{Item}
 use Rattle.unit_queue.specs.declared.item.Item.TheVariants.{Work, Closed}
@@ -8,7 +8,7 @@ or_false : (a b : Bool) → (a || b) ≡ false → (a ≡ false) × (b ≡ false
 or_false true b e = absurd (true≢false e)
 or_false false b e = (refl, e)
 
--- an open list takes one item more
+-- an open list may be extended by one item
 pub order_push : (xs : List Item) (x : Item) → is_closed xs ≡ false → IsOrderly (xs ++ x ∷ [])
 order_push [] x e = ((λ _. refl), tt)
 order_push (y ∷ ys) x e = let p = or_false _ _ e in ((λ t. absurd (true≢false (sym t ∙ p.0))), order_push ys x p.1)
@@ -21,7 +21,7 @@ order_front (x ∷ xs) ys h = ((λ t. none xs ys (h.0 t)), order_front xs ys h.1
     none [] bs e = refl
     none (a ∷ cs) bs e = absurd (cc)
 
--- after a closed list there is nothing
+-- after a closed list there are no items
 pub after_closed : (xs ys : List Item) → IsOrderly (xs ++ ys) → is_closed xs ≡ true → ys ≡ []
 after_closed [] ys h c = absurd (true≢false (sym c))
 after_closed (Work n ∷ xs) ys h c = after_closed xs ys h.1 c
@@ -37,7 +37,7 @@ is_closed-push [] Closed = refl
 is_closed-push (Work n ∷ xs) x = is_closed-push xs x
 is_closed-push (Closed ∷ xs) x = refl
 
--- what has something after it is open
+-- a list with an item after it is open
 pub open_before : (xs : List Item) (x : Item) (ys : List Item) → IsOrderly (xs ++ x ∷ ys) → is_closed xs ≡ false
 open_before xs x ys h = decided (is_closed xs) refl
   where
@@ -45,7 +45,7 @@ open_before xs x ys h = decided (is_closed xs) refl
     decided false e = e
     decided true e = let n = after_closed xs (x ∷ ys) h e in absurd (cc)
 
--- whether what comes next closes an open list
+-- whether the next item closes an open list
 pub is_closed-next : (xs ys : List Item) (x : Item) → is_closed xs ≡ false → ys ≡ xs ++ x ∷ []
     → is_closed ys ≡ is_closing x
 is_closed-next xs ys x still is = ap is_closed is ∙ is_closed-push xs x ∙ ap (λ b. b || is_closing x) still

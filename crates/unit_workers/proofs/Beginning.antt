@@ -45,7 +45,7 @@ third_fails false true c h = cc
 third_fails false false true h = refl
 third_fails false false false h = cc
 
--- a request is refused as busy only where another one waits
+-- a request is refused as busy only if another one waits
 busy_waits : (w : Processor) (n : ℕ) (a : Result Done Refusal) → IsAnswer w (Ask n) a → a ≡ Err ExchangeBusy
     → is_some w.request ≡ true
 unfolding answer_of allowed tests_of ask_tests refusal_of
@@ -54,7 +54,7 @@ busy_waits w n a (inl h) e =
     (answered_err _ (allowed w (Ask n)) ExchangeBusy (sym e ∙ h))
 busy_waits w n a (inr r) e = let o = sym e ∙ r.want in absurd (cc)
 
--- an exchange is refused as in mid word only where the machine isn't halted
+-- an exchange is refused for the middle of a word only if the machine isn't halted
 mid_runs : (w : Processor) (a : Result Done Refusal) → a ≡ answer_of w Exchange → a ≡ Err MidWord
     → is_none w.state.halt ≡ true
 unfolding answer_of allowed tests_of exchange_tests refusal_of
@@ -124,7 +124,7 @@ begins_at_once is_new n w u v d f a b new s e t g =
       whole = λ r l. new l;
     }
 
--- a request changes neither the log nor what the machine was booted with
+-- a request changes neither the log nor the values that the machine was booted with
 asked_log : (w v : Processor) (n : ℕ) (a : Result Done Refusal) → v ≡ settled w (Ask n) a → v.log ≡ w.log
 unfolding settled after
 asked_log w v n (Ok d) h = ap (λ (x : Processor). x.log) h
@@ -174,8 +174,8 @@ drained_at_rest w v count h p = by_events h.events h.accepted h.leads
 
 -- ---- to the end ----
 
--- what a run from this machine with this first package has at its end, where its log begins with the exchange for that
--- package or not
+-- the end of a run from this machine with this first package, whether or not its log begins with the exchange for that
+-- package
 pub record EndsRun (is_whole : Bool) (n : ℕ) (w : Processor) (s : Snapped) : Type 0 where
   pub memory : s.boot_memory ≡ w.boot_memory
   pub log : StartsWith s.log w.log

@@ -1,4 +1,4 @@
--- What is seen goes on from what was seen before.
+-- Knowledge that extends earlier knowledge.
 use Rattle.std.proofs.Common.{true, ◌≡◌, ◌≤◌, List, ◌∷◌, [], ◌++◌, refl, sym, ap, ◌∙◌, append_assoc, subst}
 use Rattle.std.specs.Prelude.{Result, Ok, Err, IfOk}
 use Rattle.std.proofs.lemmas.List.{append-nil}

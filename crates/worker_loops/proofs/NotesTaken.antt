@@ -1,4 +1,4 @@
--- One item more was taken.
+-- One more item was taken.
 use Rattle.std.proofs.Common.{◌≡◌, ℕ, suc, ◌+◌, List, [], ◌∷◌, ◌++◌, ap, ◌∙◌}
 use Rattle.std.proofs.Common.{arith, append_assoc}
 use Rattle.unit_queue.specs.declared.item.Item.{Item}
@@ -15,16 +15,16 @@ pub more : (before at now taken : List Item) (x : Item) → at ≡ before ++ tak
     ++ (taken ++ x ∷ [])
 more before at now taken x e f = f ∙ ap (λ l. l ++ x ∷ []) e ∙ append_assoc before taken (x ∷ [])
 
--- the items taken since the worker began, each note of which was stored or strange
+-- the items taken since the worker began; each note was stored or strange
 abbrev pub Counted : List Item → List Item → ℕ → ℕ → Type 0
 Counted first at stored strange = (taken : List Item) × (at ≡ first ++ taken) × (stored + strange ≡ notes_in taken)
 
--- what serving a note does to a seat
+-- the effect of serving a note on a seat
 pub stored : (s t : Seating) (number : ℕ) → t ≡ record s { stored = suc s.stored; last = number }
     → (t.unit ≡ s.unit) × (t.stored ≡ s.stored + 1)
 stored s t number e = (ap (λ (u : Seating). u.unit) e, ap (λ (u : Seating). u.stored) e ∙ omega arith)
 
--- one note more was taken, and was stored or strange
+-- one more note was taken, and was stored or strange
 pub note_counted : (first at now : List Item) (note : Note) (stored strange stored' strange' : ℕ)
     → Counted first at stored strange → now ≡ at ++ Work note ∷ []
     → stored' + strange' ≡ stored + strange + 1 → Counted first now stored' strange'

@@ -1,4 +1,4 @@
--- A tally may go from a worker's thread to who waits for it: the snapshot in it owns nothing.
+-- A tally may pass from a worker's thread to the thread that waits for it: the snapshot in it owns nothing.
 use denote.Param.Send.{IsSend, sendable}
 use Rattle.std.proofs.Crossing.{crosses}
 use Rattle.atomic_table.proofs.shared.Seat.TheSendSync as seat

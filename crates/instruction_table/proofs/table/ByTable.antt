@@ -1,4 +1,4 @@
--- What is read at a position is what the table says of it, an opcode at a time.
+-- Decoding at a position agrees with the table, opcode by opcode.
 use Rattle.std.proofs.Common.{ℕ, zero, suc, ◌≡◌, ◌≢◌, ◌+◌, ◌-◌, ◌*◌, ◌/◌, ◌%◌, ◌^◌, ◌<◌, Bool, true, false, cond, List}
 use Rattle.std.proofs.Common.{[], ◌∷◌, get_or, length, refl, ap, ◌∙◌, subst, arith}
 use Rattle.std.specs.Prelude.{nat_lt, ⊤}
@@ -17,13 +17,13 @@ use Rattle.instruction_table.specs.Opcode.{op_at}
 use Rattle.instruction_table.specs.Pattern.{parcels_from, IsReadAs, IsByTable}
 use Rattle.instruction_table.proofs.table.RoundTrip.{no_code}
 
--- what an entry says of the parcels that it is read from
+-- an entry's claim about the parcels that it is decoded from
 abbrev Agrees : ℕ → ℕ → TableEntry → Type 0
 Agrees p q (Short instr) = IsReadAs instr (p ∷ [])
 Agrees p q (Long instr) = IsReadAs instr (p ∷ q ∷ [])
 Agrees p q (Refused op) = op ≡ op_at p
 
--- the parcel of a code and the digits i, j and k
+-- the parcel with a code and the digits i, j and k
 abbrev parcel : ℕ → ℕ → ℕ → ℕ → ℕ
 parcel c i j k = ((c * 8 + i) * 8 + j) * 8 + k
 
@@ -39,7 +39,7 @@ p also q = (p, q)
 
 -- ---- a row of entries ----
 
--- each entry agrees with the parcel of its number
+-- each entry agrees with the parcel of its index
 abbrev AgreeFrom : (ℕ → ℕ) → ℕ → ℕ → List TableEntry → Type 0
 AgreeFrom g n q [] = ⊤
 AgreeFrom g n q (e ∷ es) = Agrees (g n) q e × AgreeFrom g (suc n) q es
@@ -50,7 +50,7 @@ agrees_at g [] c n m q h l a = absurd (omega (arith, l))
 agrees_at g (e ∷ es) c n zero q h l a = subst (λ x. Agrees (g x) q e) (omega (arith, h)) a.0
 agrees_at g (e ∷ es) c n (suc m) q h l a = agrees_at g es (suc c) n m q (omega (arith, h)) (omega (arith, l)) a.1
 
--- each of several rows of eight
+-- the same for several rows of eight entries
 abbrev AgreeRows : (ℕ → ℕ) → ℕ → ℕ → List (List TableEntry) → Type 0
 AgreeRows g n q [] = ⊤
 AgreeRows g n q (row ∷ rs) = ((length row ≡ 8) × AgreeFrom g n q row) × AgreeRows g (n + 8) q rs
@@ -95,7 +95,7 @@ module _ (i j k q K : ℕ) (hi : i < 8) (hj : j < 8) (hk : k < 8) (hq : q < 2 ^ 
   wide : K < 2 ^ 18
   wide = omega (arith, hk, hq, e)
 
-  -- two parcels with all fields used
+  -- two parcels in which every field is used
   both : (p : ℕ) → (p * 8 + k) ∷ q ∷ [] ≡ (p * 8 + K / 2 ^ 15) ∷ (K % 2 ^ 15) ∷ []
   both p = two _ _ _ _ (omega (arith, hk, hq, e)) (omega (arith, hk, hq, e))
 
@@ -125,7 +125,7 @@ module _ (i j k q K : ℕ) (hi : i < 8) (hj : j < 8) (hk : k < 8) (hq : q < 2 ^ 
   small : 8 * j + k < 64
   small = omega (arith, hj, hk)
 
-  -- one parcel whose digits j and k are a count
+  -- one parcel in which the digits j and k are a count
   count : (p : ℕ) → ((p * 8 + j) * 8 + k) ∷ [] ≡ ((p * 8 + (8 * j + k) / 8) * 8 + (8 * j + k) % 8) ∷ []
   count p = one _ _ (omega (arith, hj, hk))
 

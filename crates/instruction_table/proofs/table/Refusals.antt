@@ -1,4 +1,4 @@
--- Whether a parcel is refused depends on its code alone.
+-- Whether a parcel is refused depends only on its code.
 use Rattle.std.proofs.Common.{ℕ, zero, suc, ◌≡◌, ◌/◌, ◌%◌, ◌^◌, Bool, true, false, cond, eqb, List, [], ◌∷◌, Option}
 use Rattle.std.proofs.Common.{Some, None, refl, sym, ap, ◌∙◌, get_or, map, drop, arith}
 use Rattle.std.specs.Prelude.{◌||◌}
@@ -28,7 +28,7 @@ refused_in_row [] f m = refl
 refused_in_row (xs ∷ xss) zero m = refused_at xs m
 refused_in_row (xs ∷ xss) (suc f) m = refused_in_row xss f m
 
--- the rows of the first digits above 0
+-- the rows for first digits above 0
 abbrev upper_rows : ℕ → ℕ → ℕ → ℕ → List (List TableEntry)
 upper_rows i j k K =
     logicals i j k
@@ -40,7 +40,7 @@ upper_rows i j k K =
     ∷ increments TargetX i j k K
     ∷ []
 
--- i counts after 01, no other field does
+-- only after 01 does the field i matter
 same_refusal : (f m i i' j j' k k' K K' : ℕ) → (f ≡ 0 → m ≡ 1 → i ≡ i')
     → refused_op (entry (rows f i j k K) m) ≡ refused_op (entry (rows f i' j' k' K') m)
 same_refusal zero zero i i' j j' k k' K K' h = refl

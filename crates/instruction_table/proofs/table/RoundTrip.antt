@@ -1,5 +1,4 @@
--- Where an instruction stands in a word, whatever is in the fields that it doesn't use, the reading there is that
--- instruction.
+-- An instruction in a word is decoded as that instruction, whatever its unused fields hold.
 use Rattle.std.proofs.Common.{ℕ, zero, suc, ◌≡◌, ◌+◌, ◌*◌, ◌/◌, ◌%◌, ◌^◌, ◌<◌, ◌≤◌, true, List, [], ◌∷◌, Some, None}
 use Rattle.std.proofs.Common.{length, refl, sym, ap, ◌∙◌, arith}
 use Rattle.std.specs.Prelude.{nat_lt}
@@ -29,7 +28,7 @@ use Rattle.parcel.specs.Parcels.{parcel_at}
 use Rattle.instruction_table.proofs.table.Refusals.{refused_op, refusal_of, refusal_by_code}
 use Rattle.instruction_table.proofs.table.DecodingLaws.{entry_known}
 
--- an entry of one parcel, whatever follows
+-- an entry of one parcel, whatever comes after it
 short_entry : (instr : Instr) (c i j k p q : ℕ) → c < 64 → i < 8 → j < 8 → k < 8 → p ≡ ((c * 8 + i) * 8 + j) * 8 + k
     → ((K : ℕ) → Short instr ≡ entry (rows (c / 8) i j k K) (c % 8)) → entry_of p q ≡ Short instr
 short_entry instr c i j k p q hc hi hj hk e row =
@@ -50,14 +49,14 @@ long_entry instr c i j K p hc hi hj hK e row =
 jk_again : (jk : ℕ) → 8 * (jk / 8) + jk % 8 ≡ jk
 jk_again jk = omega arith
 
--- each first parcel that agrees with the one of a row is read as its instruction
+-- each first parcel that agrees with a row's parcel is decoded as its instruction
 abbrev pub IsEntryOf : Instr → List ℕ → Type 0
 IsEntryOf instr [] = ⊥
 IsEntryOf instr (first ∷ []) = (p q : ℕ) → used_fields instr p ≡ first → entry_of p q ≡ Short instr
 IsEntryOf instr (first ∷ q ∷ []) = (p : ℕ) → used_fields instr p ≡ first → entry_of p q ≡ Long instr
 IsEntryOf instr (first ∷ q ∷ r ∷ ps) = ⊥
 
--- a row at a time: its code, its fields, and what stands at its opcode
+-- row by row: its code, its fields, and the table's entry for its opcode
 pub entry_of_row : (instr : Instr) → IsInstr instr → IsEntryOf instr (parcels_of instr)
 entry_of_row (Stop) r = λ p q e. short_entry (Stop) 0 (p / 8 ^ 2 % 8) (p / 8 % 8) (p % 8) p q (omega arith)
     (omega arith) (omega arith) (omega arith) (omega (arith, e)) (λ _. refl)
@@ -192,7 +191,7 @@ entry_of_row (Increment TargetX i (Registers BMinusB j k)) r =
     λ p q e. short_entry (Increment TargetX i (Registers BMinusB j k)) 63 i j k p q (omega arith) r.0 r.1.0 r.1.1 e
     (λ _. refl)
 
--- the fields that an instruction doesn't use are zeros in its row
+-- in its row, the unused fields of an instruction are zeros
 row_again : (instr : Instr) → IsInstr instr
     → used_fields instr (first_parcel (parcels_of instr)) ≡ first_parcel (parcels_of instr)
 row_again (Stop) r = refl
@@ -213,7 +212,7 @@ row_again (Increment target i addends) r = refl
 
 -- ---- in a word ----
 
--- an entry of two parcels before the last position
+-- an instruction of two parcels before the last position
 long_here : (instr : Instr) (word position : ℕ) → position < 3
     → entry_of (parcel_at word position) (parcel_at word (position + 1)) ≡ Long instr
     → reading_at word position ≡ Legal instr (position + 2)
@@ -228,7 +227,7 @@ short_here : (instr : Instr) (word position : ℕ) → entry_of (parcel_at word 
 unfolding reading_at
 short_here instr word position h = rw h refl
 
--- where its pattern stands
+-- decoding where an instruction's pattern is
 pub reading_of_pattern : (instr : Instr) (word position n : ℕ) → position + n ≤ 4
     → IsReadAs instr (parcels_from word position n) → reading_at word position ≡ Legal instr (position + n)
 reading_of_pattern instr word position n within h = by_row (parcels_of instr) (entry_of_row instr h.0) n within h.1
@@ -251,7 +250,7 @@ reading_of_pattern instr word position n within h = by_row (parcels_of instr) (e
     by_row (p ∷ q ∷ []) k (suc (suc (suc n))) l e = cc
     by_row (p ∷ q ∷ r ∷ ps) k n l e = absurd k
 
--- where its parcels stand
+-- decoding where an instruction's parcels are
 pub reading_of_parcels : (instr : Instr) (word position : ℕ) → IsInstr instr → StandsAt word position (parcels_of instr)
     → reading_at word position ≡ Legal instr (position + length (parcels_of instr))
 reading_of_parcels instr word position r s = by_row (parcels_of instr) (entry_of_row instr r) (row_again instr r) s
@@ -280,7 +279,7 @@ has_code instr r = by_row (parcels_of instr) (entry_of_row instr r) (row_again i
     by_row (p ∷ q ∷ []) k z = sym (refusal_by_code p q) ∙ ap refused_op (k p z)
     by_row (p ∷ q ∷ r ∷ ps) k z = absurd k
 
--- so no instruction has a refused one
+-- so no instruction has a refused code
 pub no_code : (p q : ℕ) (op : Op) → entry_of p q ≡ Refused op → op ≡ op_at p → IsNoCode op
 no_code p q op e g = λ instr r h.
     let d : Some op ≡ None =

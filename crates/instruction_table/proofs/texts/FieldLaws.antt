@@ -28,7 +28,7 @@ use Rattle.instruction_table.specs.Candidate.{shift_in, boolean_in, mask_in, add
 use Rattle.instruction_table.specs.Candidate.{after_n, after_p, after_s, candidate_in}
 use Rattle.instruction_table.specs.Table.{IsInstr, IsAddends}
 
--- `IsInstr` and `IsAddends`, which stay closed so that a test between two instructions can be told from them
+-- `IsInstr` and `IsAddends`, kept folded so that a test between two instructions can be derived from them
 unfoldable HasFields : Instr → Type 0
 HasFields instr = IsInstr instr
 

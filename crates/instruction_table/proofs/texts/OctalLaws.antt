@@ -7,7 +7,7 @@ use Rattle.std.proofs.lemmas.Int.Digits.{digits_of_step, length-digits_of-le}
 use Rattle.std.specs.Int.Digits.{digits_of}
 use Rattle.instruction_table.specs.Octal.{octal}
 
--- at a number that is not 0
+-- the case of a number above 0
 octal_digits : (n : ℕ) → 0 < n → octal n ≡ map (λ d. 48 + d) (digits_of 8 n)
 unfolding octal
 octal_digits n some = let t : eqb n 0 ≡ false = grind (arith, nat_tests) in rw t refl
@@ -29,14 +29,14 @@ octal_small (suc m) below =
     ∙ ap (λ ds. map (λ d. 48 + d) ds) (digits_of_step 8 (suc m) (omega arith) (omega arith))
     ∙ ap (λ q. map (λ d. 48 + d) (digits_of 8 q ++ (suc m % 8 ∷ []))) none
 
--- the length of a number's text
+-- the length of a number's octal text
 pub octal_length : (k n : ℕ) → 0 < k → n < 8 ^ k → length (octal n) ≤ k
 unfolding octal
 octal_length k zero some below = some
 octal_length k (suc m) some below =
     rw (octal_digits (suc m) (omega arith), length-map) (length-digits_of-le 8 k (suc m) (omega arith) below)
 
--- the step, and the length that it leaves
+-- one step of the recursion, and the length that remains
 pub octal_ends : (n : ℕ) → 8 ≤ n → (octal n ≡ octal (n / 8) ++ (48 + n % 8) ∷ [])
     × (length (octal n) ≡ length (octal (n / 8)) + 1)
 octal_ends n large = (octal_step n large, ap length (octal_step n large) ∙ length_push (octal (n / 8)) (48 + n % 8))

@@ -1,4 +1,4 @@
--- The candidate of an instruction's text is that instruction.
+-- The candidate for an instruction's text is that instruction.
 use Rattle.std.proofs.Common.{ℕ, zero, suc, ◌≡◌, ◌+◌, ◌-◌, ◌*◌, ◌/◌, ◌%◌, ◌^◌, ◌<◌, ◌≤◌, false, eqb, List, [], ◌∷◌}
 use Rattle.std.proofs.Common.{◌++◌, get_or, append_assoc, append-nil, refl, sym, ◌∙◌, ap, arith, inl, inr}
 use Rattle.std.proofs.lemmas.Bool.{cases_lt}
@@ -53,7 +53,7 @@ number_again n small = number_within n n (omega arith) small
 count_again : (n : ℕ) → n < 64 → number_after 0 (octal n) % 64 ≡ n
 count_again n small = rw (number_again n (omega arith)) (omega arith)
 
--- a number's text begins with a digit, so with no 'B'
+-- the text of a number begins with a digit, not with 'B'
 one_not_b : (n : ℕ) (rest : List ℕ) → n < 8 → eqb (get_or (octal n ++ rest) 0 0) 66 ≡ false
 one_not_b n rest few = rw (octal_small n few) (let small : n % 8 < 8 = omega arith in grind (arith, nat_tests))
 

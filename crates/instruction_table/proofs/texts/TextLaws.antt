@@ -32,5 +32,5 @@ fields_of_instr t instr found =
     subst IsInstr (cond_some (bytes_eq (spelling (candidate_in t)) t) (candidate_in t) instr found).1
     (candidate_fields t)
 
--- the instruction that is read from a text has that text, and fields in range
+-- the text of a decoded instruction is that instruction's spelling, and its fields are in range
 pub ruleset texts_of_instr = (spelling_of_instr, fields_of_instr)

@@ -1,7 +1,7 @@
--- The items of a word, one after another.
-use Rattle.std.proofs.Common.{◌≡◌, ℕ, zero, suc, ◌+◌, ◌<◌, ◌≤◌, true, false, ltb, List, [], ◌++◌, refl, subst}
+-- The items of a word in a listing.
+use Rattle.std.proofs.Common.{◌≡◌, ℕ, zero, suc, ◌+◌, ◌<◌, ◌≤◌, true, ltb, List, ◌++◌, refl, subst}
 use Rattle.std.proofs.Common.{arith, Result, Ok, Err}
-use Rattle.std.proofs.lemmas.Bool.{lt-ltb, le-ltb}
+use Rattle.std.proofs.lemmas.Bool.{lt-ltb}
 use Rattle.std.specs.Prelude.{IsErrAnd}
 use Rattle.instruction_table.specs.declared.decoding.Decoded.{Decoded}
 use Rattle.instruction_table.specs.declared.decoding.Decoded.TheVariants.{Legal, Refused, Straddle}
@@ -12,18 +12,18 @@ use Rattle.device_text.specs.declared.output.WriteFailed.{WriteFailed}
 use Rattle.job_deck.specs.Listing.{after, separated, items_from}
 use Rattle.device_text.proofs.Putting.{PutsAllBut, puts_piece, puts_piece_cut}
 
--- an item takes a parcel at least
+-- an item takes at least one parcel
 pub goes_on : (parcel : ℕ) (item : Decoded) → GoesOn parcel item → parcel < after parcel item
 goes_on parcel (Legal instr next) range = range.0
 goes_on parcel (Refused op) range = omega arith
 goes_on parcel Straddle range = omega arith
 
--- all but the items from a parcel on was put
+-- everything was put but the items from a parcel on
 abbrev pub AllButItems : {X : Type 0} → output.Ghosts X → ℕ → ℕ → X → X → List ℕ → Type 0
 AllButItems device word parcel old new all =
     (most : ℕ) × (4 ≤ most + parcel) × PutsAllBut device (items_from most word parcel) old new all
 
--- the first of these items, and the others
+-- the first of these items, and the rest
 abbrev FirstItem : ℕ → ℕ → ℕ → Type 0
 FirstItem most word parcel =
     (fewer : ℕ) × (4 ≤ fewer + after parcel (reading_at word parcel))
@@ -56,7 +56,3 @@ module _ {X : Type 0} (device : output.Ghosts X) where
       let first = first_item left.0 word parcel range low left.1 in
       puts_piece_cut device r Q i a b c (separated parcel (reading_at word parcel)) _ all
       (subst (λ l. PutsAllBut device l a b all) first.2 left.2) cut
-
-none_past : (most word parcel : ℕ) → 4 ≤ parcel → items_from most word parcel ≡ []
-none_past zero word parcel high = refl
-none_past (suc fewer) word parcel high = let past : ltb parcel 4 ≡ false = le-ltb _ _ high in rw past refl

@@ -1,4 +1,4 @@
--- Addresses, one after another.
+-- Consecutive addresses.
 use Rattle.std.proofs.Common.{◌≡◌, ℕ, suc, ◌+◌, ◌-◌, ◌<◌, List, ◌++◌, Result, Ok, Err, refl, subst, arith}
 use Rattle.std.specs.Prelude.{IsErrAnd}
 use Rattle.std.specs.List.{flat_map}

@@ -1,4 +1,4 @@
--- A log of which a step is refused: nothing is printed, and no write has failed.
+-- A log with a refused step: nothing is printed, and no write has failed.
 use Rattle.std.proofs.Common.{◌≡◌, ◌⊎◌, ℕ, Bool, true, false, cond, List, Option, Some, None, sym, ap, ◌∙◌, subst}
 use Rattle.std.proofs.Common.{ltb, inl, inr, ⊎_elim}
 use Rattle.std.proofs.KnownBytes.{Keeps-refl}

@@ -25,7 +25,7 @@ use Rattle.job_deck.specs.declared.schedule.ScheduleLine.{ScheduleLine}
 use Rattle.instructions.specs.declared.refusal.Refusal.TheVariants as refusals
 use Rattle.device_text.proofs.Moving.{Moves-trans, Moves-weaker}
 
--- the dump of what a snapshot shows
+-- the dump of a snapshot
 pub is_dump : (w : Processor) (s state : State) (l log : List LogStep) (m : List ℕ) (shows : List Show)
     → is_pending w.pending ≡ false → s ≡ w.state → l ≡ w.log → m ≡ w.boot_memory → replay (boot m) l ≡ Some s
     → state ≡ s → log ≡ l → IsDump w shows (dump_text state (entries_of log) shows)
@@ -39,7 +39,7 @@ is_dump w s state l log m shows drained same_state same_log same_memory r e f =
           ∙ ap (λ x. dump_text w.state (entries_of x) shows) (f ∙ same_log);
     }
 
--- what is dumped of a drained machine closes a session that says `drain`
+-- the dump of the drained machine ends a session that says `drain`
 pub drain_closes : (r : Result (Unit {0}) Refusal) (drains : Bool) (w v : Processor) (count : ℕ)
     (shows : List Show) (old new : Option (List ℕ)) → drains ≡ true → Works w v count → GoesOnByWork w count v
     → Dumps r v shows old new → Closes r (last_line drains) w shows old new
@@ -56,7 +56,7 @@ is_last : (drains : Bool) → IsLast (last_line drains)
 is_last true = tt
 is_last false = tt
 
--- the reply to the last line, by what the next line of a session says
+-- the reply to the last line, by what the next line of the session says
 reply_there : (said told : ScheduleLine) (w v : Processor) (shows : List Show) (text : List ℕ) → told ≡ said → w ≡ v
     → IsReply said v shows text → IsReply told w shows text
 reply_there said told w v shows text e f h =
@@ -118,7 +118,7 @@ session_stopped a b e w v n shows old new told =
 
 -- ---- the deck with its schedule
 
--- the session of a machine that was reached from boot by no events, told from boot
+-- a session of a booted machine after no events is a session from boot
 session_from_boot : (memory : List ℕ) (budget n : ℕ) (w : Processor) (lines : List (List ℕ × List ℕ))
     → IsReached memory budget [] [] w → Session (GoesOn w) w n lines → Session (IsReached memory budget) w n lines
 session_from_boot memory budget n w lines booted s =

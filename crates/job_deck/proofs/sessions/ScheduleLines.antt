@@ -1,4 +1,4 @@
--- What the next line of a schedule says, by what a reading of it took.
+-- The next line of a schedule, by the bytes that reading it takes.
 use Rattle.std.proofs.Common.{◌≡◌, ℕ, ◌≤◌, true, false, ltb, List, [], ◌∷◌, ◌++◌, length, drop, Option, refl, sym}
 use Rattle.std.proofs.Common.{ap, ◌∙◌, append_assoc, append-nil, inl, inr}
 use Rattle.std.proofs.lemmas.Bool.{lt-ltb, le-ltb}
@@ -21,12 +21,12 @@ whole_line n text ys low short =
     let fits : ltb 200 (length text) ≡ false = le-ltb _ _ short in
     rw (within, fits) refl
 
--- a whole line is a beginning of the bytes
+-- a whole line is a prefix of the bytes
 whole_part : (text xs ys : List ℕ) → LineTaken Whole text xs ys → (part : List ℕ) × (xs ≡ part ++ ys)
 whole_part text xs ys (inl e) = (text ++ 10 ∷ [], e ∙ sym (append_assoc text (10 ∷ []) ys))
 whole_part text xs ys (inr e) = (text, e.1 ∙ sym (append-nil text) ∙ ap (λ l. text ++ l) (sym e.2))
 
--- a line that isn't long leaves what comes after it
+-- reading a line that isn't too long leaves the bytes after it
 whole_left : (n : ℕ) (text xs ys : List ℕ) → n ≤ 10000000 → length text ≤ 200
     → ys ≡ left_after_line n xs ((text, ys) ∷ lines_of ys)
 whole_left n text xs ys low short =
@@ -58,7 +58,7 @@ long_line n (line ∷ lines) low h =
     let long : ltb 200 (length line.0) ≡ true = lt-ltb _ _ h in
     rw (within, long) refl
 
--- of a long line 201 bytes were taken
+-- reading a line that is too long takes 201 bytes
 long_left : (n : ℕ) (bytes : List ℕ) (lines : List (List ℕ × List ℕ)) → n ≤ 10000000 → FirstHas 201 lines
     → drop 201 bytes ≡ left_after_line n bytes lines
 long_left n bytes [] low h = absurd h

@@ -1,4 +1,4 @@
--- How far a session has come.
+-- The progress of a session.
 use Rattle.std.proofs.Common.{◌≡◌, ℕ, ◌+◌, ◌<◌, true, false, ltb, List, [], ◌∷◌, ◌++◌, append-nil, length, append_assoc}
 use Rattle.std.proofs.Common.{length-append, Option, Result, Ok, Err, refl, sym, ap, ◌∙◌, subst, subst₂, arith}
 use Rattle.std.proofs.lemmas.Bool.{lt-ltb}
@@ -61,7 +61,7 @@ one_more_line : (text : List ℕ) (given : List (Result Done Refusal)) (a : Resu
     → text ≡ flat_map answer_line given → text ++ answer_line a ≡ flat_map answer_line (given ++ a ∷ [])
 one_more_line text given a h = ap (λ t. t ++ answer_line a) h ∙ flat_map_more answer_line [] given a
 
--- nothing more leads to a machine than what led to it
+-- no further events leave the machine as it is
 stays : (w : Processor) → GoesOn w [] [] w
 stays w memory budget events answers r =
     subst₂ (λ xs ys. IsReached memory budget xs ys w) (sym (append-nil events)) (sym (append-nil answers)) r
@@ -69,7 +69,7 @@ stays w memory budget events answers r =
 -- ---- the session from the bytes xs on, as far as the bytes ys
 
 module _ (w : Processor) (n : ℕ) (old : Option (List ℕ)) where
-  -- it has come to line m, with the machine v, and the bytes ys are left
+  -- the session has reached line m and the machine v, and the bytes ys are left
   abbrev pub Has : ℕ → Processor → Option (List ℕ) → List ℕ → List ℕ → Type 0
   Has m v new xs ys = (s : Session (GoesOn w) w n (lines_of xs)) × (s.left ≡ lines_of ys) × (s.number ≡ m)
       × (s.machine ≡ v) × Appends old new s.text × ((read : List ℕ) × (xs ≡ read ++ ys))
@@ -147,7 +147,7 @@ module _ (w : Processor) (n : ℕ) (old : Option (List ℕ)) where
       Moves-trans a b c (Has m v mid) (ReadsScheduleLine m (Makes e)) (Has (m + 1) x new)
       (λ xs ys zs h k. gone_on m v x mid new xs ys zs e made.0 h k made.1 made.2 made.3 made.4) told taken
 
-  -- what the line that comes next says
+  -- what the next line says
   says_next : (m : ℕ) (v : Processor) (new : Option (List ℕ)) (xs ys : List ℕ) (said : ScheduleLine)
       (h : Has m v new xs ys)
       → line_says m (lines_of ys) ≡ said → line_says h.0.number h.0.left ≡ said
@@ -188,7 +188,7 @@ module _ (w : Processor) (n : ℕ) (old : Option (List ℕ)) where
       (λ xs ys zs h k.
       (h.0, h.3, says_next m v new xs ys Drains h k.0, (k.1.0, h.1 ∙ k.1.1), h.4)) told taken
 
-  -- the line that comes next was refused, and these bytes are left
+  -- the next line was refused, and these bytes are left
   refused_there : (m : ℕ) (v : Processor) (new : Option (List ℕ)) (xs ys zs : List ℕ) (h : Has m v new xs ys)
       → zs ≡ left_after_line m ys (lines_of ys) → IsRefused h.0.number h.0.left xs zs
   refused_there m v new xs ys zs h k = (

@@ -1,4 +1,4 @@
--- Lines of a schedule that have too many fields.
+-- Lines of a schedule with too many fields.
 use Rattle.std.proofs.Common.{◌≡◌, ℕ, true, false, cond, eqb, List, [], ◌∷◌, refl}
 use Rattle.std.specs.List.{onto_first}
 use Rattle.device_text.specs.Text.{fields_of}
@@ -11,7 +11,7 @@ four_onto : (w a b : List ℕ) (x : ℕ) (parts : List (List ℕ))
 four_onto w a b x [] = refl
 four_onto w a b x (part ∷ parts) = refl
 
--- four fields say nothing
+-- a line with four or more fields is no event
 pub four_fields : (w a b rest : List ℕ) → line_of_fields (w ∷ a ∷ b ∷ fields_of rest) ≡ Faulty faults.Unknown
 four_fields w a b [] = refl
 four_fields w a b (x ∷ xs) =

@@ -1,4 +1,4 @@
--- What is answered where no deck was read, or no machine booted.
+-- The answers if no deck was read or no machine booted.
 use Rattle.std.proofs.Common.{◌≡◌, ◌∙◌, ◌⊎◌, ℕ, true, false, Result, List, length, Option, None, Some, Err, inl, inr}
 use Rattle.std.proofs.Common.{refl}
 use Rattle.std.proofs.Common.{ap, arith}
@@ -15,7 +15,7 @@ use Rattle.job_deck.specs.Replaying.{Replays, ReplaysFollowing}
 use Rattle.log_text.specs.FollowingLog.{ReadsWithinLine}
 use Rattle.job_deck.specs.SessionResult.{Performs}
 
--- no write failed where no deck was read
+-- no write failed if no deck was read
 no_write : (U : Type 0) (e : Refusal) → is_of_reading {T = Deck × ℕ} (Err e) ≡ true
     → is_write_failure {T = U} (Err e) ≡ false
 no_write U refusals.Write h = cc
@@ -63,7 +63,7 @@ follows_there e reading rest old (inl h) = rw h.2 (h.3, Keeps-refl old)
 follows_there e reading rest old (inr (inl h)) = rw h (Keeps-refl old)
 follows_there e reading rest old (inr (inr h)) = rw h (Keeps-refl old)
 
--- the deck was read, but its log was not
+-- the deck was read, but not its log
 pub follows_unread : (a b c : Option (List ℕ)) (e : Refusal) (d : Deck) (n : ℕ) (old : Option (List ℕ))
     → (e ≡ refusals.OutOfMemory) ⊎ (e ≡ refusals.Read) → Moves a b (λ xs ys. deck xs ≡ Good d n ys)
     → Moves b c ReadsWithinLine → Moves a c (λ xs ys. ReplaysFollowing (Err e) (deck xs) ys old old)

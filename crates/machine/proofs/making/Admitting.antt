@@ -1,4 +1,4 @@
--- What a peripheral access that was judged with its room in the log is answered.
+-- The answer to a peripheral access that was judged together with its room in the log.
 use Rattle.std.proofs.Common.{◌≡◌, ◌∙◌, ℕ, Some, None, length, true, ap, inl, inr, sym}
 use Rattle.std.specs.Prelude.{Err, ◌⊎◌}
 use Rattle.instructions.specs.declared.refusal.Refusal.{Refusal}
@@ -11,13 +11,13 @@ use Rattle.program_order.specs.Processor.{Processor}
 use Rattle.program_order.specs.Run.{IsAnswer, makes_room}
 use Rattle.machine.proofs.making.Making.{err_answer}
 
--- the access is allowed, for a memory whose size was counted
+-- the access is allowed; the memory's size was counted
 pub admitted : (w : Processor) (a size : ℕ) → size ≡ length w.state.memory
     → refusal_of (access_tests w.accessed w.pending size a) ≡ None
     → refusal_of (access_tests w.accessed w.pending (length w.state.memory) a) ≡ None
 admitted w a size z h = ap (λ k. refusal_of (access_tests w.accessed w.pending k a)) (sym z) ∙ h
 
--- ... or it is refused, or the log can't grow
+-- the access is refused, or the log can't grow
 pub not_admitted : (w v : Processor) (e : Event) (a size : ℕ) (k : Refusal) → w ≡ v → makes_room e ≡ true
     → allowed w e ≡ refusal_of (access_tests w.accessed w.pending (length w.state.memory) a)
     → size ≡ length w.state.memory

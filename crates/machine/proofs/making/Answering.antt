@@ -1,4 +1,4 @@
--- What the answer to an event tells, once it is known which event it is.
+-- Facts about a known event that follow from its answer.
 use Rattle.std.proofs.Common.{◌≡◌, ◌∙◌, true, [], ◌∷◌, ap, inl, subst, sym, Option}
 use Rattle.std.specs.Prelude.{Result, Ok, IfErr}
 use Rattle.instructions.specs.declared.refusal.Refusal.{Refusal}

@@ -1,4 +1,5 @@
--- What an instruction leaves after its store event: what its shape says of it, and that there is room for it.
+-- The reference that an instruction leaves after its store event: its form, by the instruction's shape, and the room
+-- for it.
 use Rattle.std.proofs.Common.{◌≡◌, ℕ, Bool, true, false, ◌&&◌, Option, Some, None, length, refl, sym, ap, ◌∙◌, subst}
 use Rattle.std.specs.Prelude.{IfSome, is_none}
 use Rattle.instructions.specs.declared.instr.Unit.{Unit as FunctionalUnit}
@@ -36,7 +37,7 @@ unfolding entering left_to_return returning
 store_returns None word = refl
 store_returns (Some a) word = refl
 
--- what is left returns to the channel of its shape
+-- the rest of a load returns to the channel of its shape
 rest_returns : (b : Bounds) (h : Shape) (v : UnitValue)
     → left_to_return (rest_of b 0 (reference_for h v)) ≡ channel_of h
 unfolding reference_for relocated outstanding_of left_to_return channel_of
@@ -63,7 +64,7 @@ is_rest b h v rest e = record {
   refers = λ k. rest_refers b h v (sym (ap enters e) ∙ k);
 }
 
--- what is left is what an instruction of that shape may leave
+-- the rest is one that an instruction of that shape may leave
 pub store_rest : (w : Processor) (u : FunctionalUnit) (m : Pending) (v : UnitValue) (b : Bounds)
     (rest : Option Relocated) → located (seek (stage_at u) w.pending)
     ≡ Some (record { pending = m; answer = Finished v })
@@ -74,7 +75,7 @@ store_rest w u m v b rest h er =
     (is_rest b (shape_of m.instr) v rest
     (ap (outstanding_of 0) er))
 
--- where what is left enters the hopper, there is a place
+-- if the rest enters the hopper, there is a free place
 pub store_room : (w : Processor) (u : FunctionalUnit) (size : ℕ) (m : Pending) (v : UnitValue)
     (rest : Option Relocated) → allowed w (StoreResult u) ≡ None
     → located (seek (stage_at u) w.pending) ≡ Some (record { pending = m; answer = Finished v })

@@ -1,4 +1,4 @@
--- What the made and the refused events leave, over a plain machine.
+-- The machine after made and refused events, as a plain value.
 use Rattle.std.proofs.Common.{◌≡◌, ◌≤◌, ◌+◌, ℕ, Bool, true, false, List, [], ◌∷◌, ◌++◌, Option, Some, None, length}
 use Rattle.std.proofs.Common.{refl, sym, ap, ◌∙◌, subst, suc, add-one, arith, leb}
 use Rattle.std.specs.Prelude.{Result, Ok, Err, ◌^◌, ◌-◌, min, unwrap_or, set, IfSome, replicate}
@@ -89,14 +89,14 @@ still_kept w v e old new a h k room numbered limit =
       within = subst IsWithinBudget (sym h) (event_within w e a k.within);
     }
 
--- those in flight of a machine, and the machine with others in flight
+-- the instructions in flight of a machine, and the machine with other instructions in flight
 abbrev pub flight : Processor → Flight
 flight w = record { pending = w.pending; busy = w.busy; last = w.last }
 
 abbrev pub with_flight : Processor → Flight → Processor
 with_flight w g = record w { pending = g.pending; busy = g.busy; last = g.last }
 
--- where those in flight are as they were
+-- if the instructions in flight are unchanged, so is the machine
 pub same_flight : (w : Processor) (g : Flight) → g ≡ flight w → with_flight w g ≡ w
 same_flight w g e = ap (with_flight w) e
 
@@ -124,7 +124,7 @@ ok_after w v n e d h m = m ∙ ap (λ x. after x e) h
 
 -- ---- the judgements ----
 
--- a count that stops at the largest number says as well whether the budget is used up
+-- a count that saturates gives the same answer whether the budget is used up
 same_used : (budget issues count : ℕ) → budget ≤ 10000000 → count ≡ min issues (2 ^ 64 - 1)
     → leb budget issues ≡ leb budget count
 same_used budget issues count h e = by_test (leb budget count) refl
@@ -139,7 +139,7 @@ same_tests : (w : Processor) (count : ℕ) → w.budget ≤ 10000000 → count �
 unfolding issue_tests
 same_tests w count h e = rw (same_used w.budget (issued w.log) count h e)
 
--- what is judged before first order, and first order
+-- the refusals that come before first order, and first order
 pub issue_refused : (w : Processor) (count : ℕ) (k : Refusal) → w.budget ≤ 10000000
     → count ≡ min (issued w.log) (2 ^ 64 - 1)
     → refusal_of (issue_tests w.state w.pending w.request w.budget count) ≡ Some k → allowed w Issue ≡ Some k
@@ -389,7 +389,7 @@ write_word_made w a v s log es el =
     ∙ ap (λ k. record w { state = store_word w.state a v; log = w.log ++ Wrote a v ∷ []; accessed = k })
     (add-one w.accessed)
 
--- what an issue leaves, but for its entry in the log, and the reservation that it answers
+-- the machine after an issue, apart from the log's new entry, and the reservation in the answer
 pub record IsIssued (w : Processor) (before : Logged) (g : Fetched) (v : Processor) (log : Logged)
     (given : Option Note) : Type 0 where
   pub judged : refusal_of (reservation_tests w.pending g) ≡ None
@@ -500,7 +500,7 @@ owed_issued false true (Some n) old new spent h e k i = omega (arith, h, k, i)
 pub numbered_still : (last : ℕ) (old new : List LogStep) → new ≡ old → last ≤ issued old → last ≤ issued new
 numbered_still last old new e h = subst (λ l. last ≤ issued l) (sym e) h
 
--- one more step that is no instruction
+-- one more log step that is no instruction
 pub numbered_other : (last : ℕ) (old new : List LogStep) (x : LogStep) → issued (x ∷ []) ≡ 0 → new ≡ old ++ x ∷ []
     → last ≤ issued old → last ≤ issued new
 numbered_other last old new x z e h = subst (λ l. last ≤ issued l) (sym e) (after old h)
@@ -624,7 +624,7 @@ boot_kept w memory budget log e r h n l =
       within = subst IsWithinBudget (sym e) (boot_within memory budget);
     }
 
--- giving the seats out changes nothing else
+-- handing out the seats changes nothing else
 pub seats_kept : (w : Processor) (log : Logged) → IsKept w log → IsKept (record w { seats_given = true }) log
 unfolding completed replayed
 seats_kept w log k = record {
@@ -642,7 +642,7 @@ seats_kept w log k = record {
 
 -- ---- a snapshot ----
 
--- a drained machine's state is the replay of its log, and so are copies of them
+-- the state of a drained machine is the replay of its log; the same holds for copies of both
 pub snap_replay : (w : Processor) (log : Logged) (s : State) (steps : List LogStep) (memory : List ℕ) → IsKept w log
     → is_pending w.pending ≡ false → s ≡ w.state → steps ≡ w.log → memory ≡ w.boot_memory
     → replay (boot memory) steps ≡ Some s
@@ -652,7 +652,7 @@ snap_replay w log s steps memory k p es el em =
     ∙ drained_replay w (k.sound, k.replay) (not_pending w.pending p)
     ∙ ap Some (sym es)
 
--- what was issued stays within the budget in them too
+-- the copies stay within the budget too
 pub snap_within : (w : Processor) (log : Logged) (steps : List LogStep) → IsKept w log → steps ≡ w.log
     → issued steps ≤ w.budget
 snap_within w log steps k el = let e = ap issued el in let h = k.within in omega (arith, e, h)

@@ -1,5 +1,5 @@
--- What a unit that reads its operands leaves, from what the instructions in flight answered.
-use Rattle.std.proofs.Common.{◌≡◌, ap, [], ◌∷◌, Some}
+-- The machine after a unit's read, from the answer of the instructions in flight.
+use Rattle.std.proofs.Common.{◌≡◌, [], ◌∷◌, Some}
 use Rattle.std.specs.Prelude.{Result, Ok, Err, IfOk, MatchResult}
 use Rattle.instructions.specs.declared.instr.Unit.{Unit as FunctionalUnit}
 use Rattle.instructions.specs.declared.refusal.Refusal.{Refusal}
@@ -14,11 +14,9 @@ use Rattle.unit_ops.specs.declared.Operands.{Operands}
 use Rattle.program_order.specs.declared.event.Event.TheVariants.{Read}
 use Rattle.program_order.specs.Events.{after}
 use Rattle.program_order.specs.Processor.{Processor}
-use Rattle.machine.specs.Tokens.{Seating, reading_in}
 use Rattle.machine.proofs.making.Making.{read_made, same_flight, with_flight, flight}
-use Rattle.machine.proofs.serving_tokens.SlotLaws.{slot_read}
 
--- the machine is that after the read, or as it was
+-- the machine is the one after the read, or unchanged
 pub read_left : (w : Processor) (u : FunctionalUnit) (r : Result (Pending × Operands) Refusal) (g : Flight)
     → IfOk r (λ read. located (seek (stage_at u) w.pending) ≡ Some (record { pending = read.0; answer = Unread }))
     → IfOk r (λ read. read.1 ≡ operands read.0.instr read.0.at w.state.registers)
@@ -28,14 +26,3 @@ pub read_left : (w : Processor) (u : FunctionalUnit) (r : Result (Pending × Ope
     → MatchResult r (λ _. with_flight w g ≡ after w (Read u)) (λ k. with_flight w g ≡ w)
 read_left w u (Ok x) g p o a = read_made w u x.0 x.1 g p o a
 read_left w u (Err k) g p o a = same_flight w g a
-
--- the slot then shows what was read
-pub read_shown : (w : Processor) (u : FunctionalUnit) (r : Result (Pending × Operands) Refusal) (g : Flight)
-    → IfOk r (λ read. located (seek (stage_at u) w.pending) ≡ Some (record { pending = read.0; answer = Unread }))
-    → MatchResult r (λ read. g ≡ with_pending (flight w)
-    (replaced (seek (stage_at u) w.pending) w.pending (λ m. in_phase m (Before (HasRead read.1)) ∷ [])))
-    (λ refusal. g ≡ flight w)
-    → IfOk r (λ read. (seat : Seating) → reading_in seat (seek (stage_at u) g.pending)
-    ≡ Some (record { seat = seat; number = read.0.number; instr = read.0.instr; operands = read.1 }))
-read_shown w u (Ok x) g p a = slot_read u w.pending g.pending x.0 x.1 p (ap (λ (f : Flight). f.pending) a)
-read_shown w u (Err k) g p a = tt

@@ -1,4 +1,4 @@
--- Why a store event is refused, from what was found in the unit.
+-- Why a store event is refused, from the instruction found in the unit.
 use Rattle.std.proofs.Common.{◌≡◌, ℕ, List, Option, None, Some, length, ap, sym, ◌∙◌, refl}
 use Rattle.instructions.specs.declared.refusal.Refusal.{Refusal}
 use Rattle.instructions.specs.declared.refusal.Refusal.TheVariants.{Nothing}
@@ -24,11 +24,11 @@ use Rattle.program_order.specs.Processor.{Processor}
 use Rattle.program_order.specs.Units.{store_tests}
 use Rattle.machine.proofs.making.Making.{store_judged}
 
--- the first refusal of a store in a unit whose instruction is searched for
+-- the first refusal of a store in the unit in which an instruction is searched for
 abbrev pub refused_at : Bounds → List Pending → Option (Found Pending Stage) → Option Refusal
 refused_at b ms o = refusal_of (tests_found o (λ f. store_tests b ms f.answer f.earlier f.item.instr))
 
--- nothing is to be stored where the instruction has no value yet
+-- an instruction without a value has nothing to store
 pub unfinished : (b : Bounds) (ms : List Pending) (o : Option (Found Pending Stage)) (s : Located Stage)
     → located o ≡ Some s → ((v : UnitValue) → s.answer ≡ Finished v → ⊥) → refused_at b ms o ≡ Some Nothing
 unfolding refusal_of tests_found store_tests nothing
@@ -40,7 +40,7 @@ unfinished b ms (Some f) s h n = by_stage f.answer refl
     by_stage (HasRead os) e = ap (λ t. refusal_of (store_tests b ms t f.earlier f.item.instr)) e
     by_stage (Finished v) e = absurd (n v (sym (sought_what f s h) ∙ e))
 
--- a store of a value is refused for what the instructions in flight have against it
+-- the other instructions in flight decide whether a value may be stored
 pub judged : (b : Bounds) (ms : List Pending) (o : Option (Found Pending Stage)) (m : Pending) (v : UnitValue)
     (rest : Option Relocated) (r : Option Refusal) → located o ≡ Some (record { pending = m; answer = Finished v })
     → rest ≡ relocated b (reference_for (shape_of m.instr) v)
@@ -61,20 +61,20 @@ judged b ms (Some f) m v rest r h e k =
     made = e ∙ ap (λ (x : Pending). relocated b (reference_for (shape_of x.instr) v))
         (sym (sought_pending f (record { pending = m; answer = Finished v }) h))
 
--- what was found in the unit has its value
+-- the instruction found in the unit has its value
 pub found_finished : (o : Option (Found Pending Stage)) (r : Option (Located Stage)) (s : Located Stage) (v : UnitValue)
     → r ≡ located o → r ≡ Some s → s.answer ≡ Finished v
     → located o ≡ Some (record { pending = s.pending; answer = Finished v })
 found_finished o r s v h i e =
     sym h ∙ i ∙ ap (λ (t : Stage). Some (record { pending = s.pending; answer = t })) e
 
--- the reference of the work is that of the instruction and its value
+-- the reference of the work is the reference of the instruction and its value
 pub reference_made : (b : Bounds) (rest : Option Relocated) (work : DoneWork) (m : Pending) (v : UnitValue)
     → rest ≡ relocated b work.reference → IsWorkOf (shape_of m.instr) v work
     → rest ≡ relocated b (reference_for (shape_of m.instr) v)
 reference_made b rest work m v h k = h ∙ ap (relocated b) k.reference
 
--- a store of a value is allowed unless the instructions in flight have something against it
+-- a value may be stored unless another instruction in flight prevents it
 pub store_asked : (w : Processor) (u : FunctionalUnit) (size : ℕ) (m : Pending) (v : UnitValue)
     (rest : Option Relocated) (r o : Option Refusal)
     → located (seek (stage_at u) w.pending) ≡ Some (record { pending = m; answer = Finished v })

@@ -1,4 +1,4 @@
--- Which reservation the slot of a unit holds, before and after what its unit does.
+-- The reservation in a unit's slot, before and after the unit's events.
 use Rattle.std.proofs.Common.{◌≡◌, ℕ, Bool, true, false, cond, ◌&&◌, List, [], ◌∷◌, ◌++◌, Option, Some, None, refl, sym}
 use Rattle.std.proofs.Common.{ap, ◌∙◌, subst, eqb, rules}
 use Rattle.std.proofs.lemmas.Bool.{eq-eqb, eqb-true}
@@ -10,11 +10,8 @@ use Rattle.unit_ops.specs.declared.Operands.{Operands}
 use Rattle.unit_ops.specs.declared.UnitValue.{UnitValue}
 use Rattle.unit_ops.specs.Values.{value_of}
 use Rattle.program_order.specs.declared.event.Event.TheVariants.{Finish}
-use Rattle.instructions.specs.declared.refusal.Refusal.{Refusal}
-use Rattle.program_order.specs.declared.event.Done.{Done}
 use Rattle.program_order.specs.declared.event.Note.{Note}
-use Rattle.program_order.specs.Run.{answer_by}
-use Rattle.std.specs.Prelude.{◌≢◌, IfSome, MatchBool, Ok}
+use Rattle.std.specs.Prelude.{◌≢◌, IfSome, MatchBool}
 use Rattle.in_flight.specs.Pending.{has_read, is_finished, is_unread}
 use Rattle.instructions.specs.declared.instr.Instr.{Instr}
 use Rattle.in_flight.specs.declared.pending.Pending.{Pending}
@@ -42,19 +39,19 @@ pub noted : (n : Note) (t u : ServedReservation) → n ≡ record { unit = t.sea
     → n ≡ record { unit = u.seat.unit; number = u.number }
 noted n t u e k = e ∙ ap (λ (x : ServedReservation). record { unit = x.seat.unit; number = x.number }) k
 
--- nobody before the one that is found answers
+-- no instruction before the found one answers
 seek_before : {K : Type 0} (f : Pending → Option K) (ms : List Pending) (x : Found Pending K) → seek f ms ≡ Some x
     → Each (λ e. f e ≡ None) x.earlier
 seek_before f ms x h = (seek_splits f ms x h).2
 
--- another instruction that answers, in the place of the one that was found, is found there
+-- a search finds an answering instruction that replaces the found one
 put_found : {K : Type 0} (f : Pending → Option K) (ms : List Pending) (x : Found Pending K) (m : Pending) (answer : K)
     → seek f ms ≡ Some x → f m ≡ Some answer
     → seek f (x.earlier ++ m ∷ x.later)
     ≡ Some (record { earlier = x.earlier; item = m; answer = answer; later = x.later })
 put_found f ms x m answer h e = seek_around f x.earlier m answer x.later (seek_before f ms x h) e
 
--- an instruction that holds the unit holds it in each of its stages
+-- an instruction that holds a unit holds it in each of its stages
 still_at : (u : FunctionalUnit) (m : Pending) (t s : Stage) → stage_at u m ≡ Some t
     → stage_at u (in_phase m (Before s)) ≡ Some s
 unfolding stage_at stage_in in_phase
@@ -64,7 +61,7 @@ still_at u m t s h = by_test (same_unit m.unit u) h
     by_test true k = refl
     by_test false k = cc
 
--- a slot whose unit has read holds what was read
+-- the slot of a unit that has read holds the operands
 pub slot_read : (u : FunctionalUnit) (pending ms : List Pending) (m : Pending) (os : Operands)
     → located (seek (stage_at u) pending) ≡ Some (record { pending = m; answer = Unread })
     → ms ≡ replaced (seek (stage_at u) pending) pending (λ x. in_phase x (Before (HasRead os)) ∷ [])
@@ -85,7 +82,7 @@ slot_read u pending ms m os h e seat =
         ∙ ap (λ (x : Pending). Some (record { seat = seat; number = x.number; instr = x.instr; operands = os }))
         (sought_pending f (record { pending = m; answer = Unread }) k)
 
--- the slot of a waiting instruction waits with its number
+-- the slot of a waiting instruction waits under its number
 pub slot_unread : (u : FunctionalUnit) (pending : List Pending) (m : Pending)
     → located (seek (stage_at u) pending) ≡ Some (record { pending = m; answer = Unread })
     → unread_in m.number (seek (stage_at u) pending) ≡ true
@@ -101,7 +98,7 @@ slot_unread u pending m h = found (seek (stage_at u) pending) h
         ∙ ap (λ t. is_unread t && eqb m.number m.number) (sought_what f (record { pending = m; answer = Unread }) k)
         ∙ eq-eqb m.number m.number refl
 
--- a slot waits with one number
+-- a slot waits under one number only
 pub one_number : (m n : ℕ) (o : Option (Found Pending Stage)) → unread_in m o ≡ true → unread_in n o ≡ true → m ≡ n
 unfolding unread_in
 one_number m n None h k = cc
@@ -129,18 +126,18 @@ loaded_as w v t k m os pending b ek em eb et h i =
     (ap (λ l. unread_in k.number (seek (stage_at k.unit) l)) (sym em) ∙ sym eb ∙ et)
     ∙ ap (λ (x : Note). x.number) ek)
 
--- it is the value of what was read
+-- whether it is the value computed from the operands
 abbrev pub IsValueAt : UnitValue → Instr → Stage → Type 0
 IsValueAt value instr Unread = ⊥
 IsValueAt value instr (HasRead operands) = value ≡ value_of instr operands
 IsValueAt value instr (Finished old) = ⊥
 
--- it is the value of what was read by the reservation in the slot
+-- whether it is the value computed from the operands of the reservation in the slot
 abbrev pub IsValueIn : UnitValue → Option (Found Pending Stage) → Type 0
 IsValueIn value None = ⊥
 IsValueIn value (Some f) = IsValueAt value f.item.instr f.answer
 
--- the value of what was read is the value that the slot is to have
+-- the value computed from the operands is the slot's next value
 pub value_in : (o : Option (Found Pending Stage)) (seat : Seating) (r : Reading) (v : UnitValue)
     → reading_in seat o ≡ Some r → v ≡ value_of r.instr r.operands → IsValueIn v o
 unfolding reading_in reading_at
@@ -152,7 +149,7 @@ value_in (Some f) seat r v h e = at_stage f.answer h
     at_stage (HasRead os) k = e ∙ ap (λ (x : Reading). value_of x.instr x.operands) (sym (same_Some _ r k))
     at_stage (Finished w) k = cc
 
--- a slot that is to have the value of what was read has read
+-- a slot with a value to come has read its operands
 pub has_read_in : (v : UnitValue) (o : Option (Found Pending Stage)) → IsValueIn v o
     → IfSome (located o) (λ s. has_read s.answer ≡ true)
 unfolding located has_read
@@ -168,7 +165,7 @@ has_read_in v (Some f) h = at_stage f.answer refl h
         read_is os = refl
     at_stage (Finished x) e k = absurd k
 
--- the machine after a value that was put into its slot
+-- the machine after a value was put into its slot
 pub value_put : (w : Processor) (u : FunctionalUnit) (v : UnitValue) (g : Flight) → IsValueIn v (slot w u)
     → g ≡ with_pending (flight w)
     (replaced (seek (stage_at u) w.pending) w.pending (λ m. in_phase m (Before (Finished v)) ∷ []))
@@ -196,11 +193,6 @@ value_put w u v g i e = found (slot w u) refl i
         at_stage (Finished x) et q = absurd q
 
 -- ---- the answers of a store ----
-
-answered_ok : (d given : Done) (o : Option Refusal) → Ok given ≡ answer_by d o → o ≡ None
-unfolding answer_by
-answered_ok d given None e = refl
-answered_ok d given (Some x) e = cc
 
 -- ---- what a token was computed from ----
 
@@ -270,7 +262,7 @@ unfolding reading_at
 reads_finished seat o m v x h k =
     let e : None ≡ Some x = sym (reads_as seat o (record { pending = m; answer = Finished v }) h) ∙ k in cc
 
--- a token is of the slot where it says what the slot has read
+-- a token belongs to the slot if it carries the operands of the slot
 pub reads_same : (b : Bool) (t : Computation) (o : Option (Found Pending Stage)) (m : Pending) (os : Operands)
     → located o ≡ Some (record { pending = m; answer = HasRead os })
     → MatchBool b (read_of t ≡ record { seat = t.seat; number = m.number; instr = m.instr; operands = os })
@@ -281,7 +273,7 @@ reads_same true t o m os h e = reads_as t.seat o (record { pending = m; answer =
 reads_same false t o m os h e =
     λ k. e (same_Some _ _ (sym k ∙ reads_as t.seat o (record { pending = m; answer = HasRead os }) h))
 
--- the value of what was read is the value that the slot is to have
+-- the value computed from the operands is the slot's next value
 pub value_of_sought : (o : Option (Found Pending Stage)) (m : Pending) (os : Operands) (v : UnitValue)
     → located o ≡ Some (record { pending = m; answer = HasRead os }) → v ≡ value_of m.instr os → IsValueIn v o
 value_of_sought None m os v h e = absurd (no_sought (record { pending = m; answer = HasRead os }) h)

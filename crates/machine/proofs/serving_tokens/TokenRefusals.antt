@@ -1,4 +1,4 @@
--- Each refusal of a token's call is a stranger's, or one of those that its event may have.
+-- Each refusal of a token's call is that of a stranger, or one that the event itself may have.
 use Rattle.std.proofs.Common.{◌≡◌, ℕ, Bool, true, false, ◌||◌, ◌&&◌, List, Option, Some, None, refl, sym, ap, ◌∙◌, eqb}
 use Rattle.instructions.specs.declared.refusal.Refusal.{Refusal}
 use Rattle.instructions.specs.declared.instr.Unit.{Unit as FunctionalUnit}
@@ -19,7 +19,7 @@ use Rattle.in_flight.specs.Lookup.{stage_at}
 use Rattle.sequential.specs.State.{bounds_of}
 use Rattle.program_order.proofs.keeping.Naming.{one_of}
 
--- where it waits, only its operands can be refused
+-- while the instruction waits, only its operands can be the reason of a refusal
 waiting_named : (w : Processor) (u : FunctionalUnit) (n : ℕ) (k : Refusal) → unread_in n (slot w u) ≡ true
     → allowed w (Read u) ≡ Some k → is_read_refusal k ≡ true
 unfolding allowed tests_of tests_found read_tests unread_in is_unread is_read_refusal nothing refusal_of

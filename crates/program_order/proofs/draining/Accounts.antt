@@ -1,4 +1,5 @@
--- Work on what is pending leaves the accounts as they were: log, request, counts, and what was given at boot.
+-- Events that serve pending instructions leave the accounts unchanged: log, request, counts, and the values given at
+-- boot.
 use Rattle.std.proofs.Common.{◌≡◌, ℕ, Bool, true, List, [], ◌∷◌, Option, Some, None, refl, sym, ◌∙◌, subst}
 use Rattle.instructions.specs.Finding.{Found}
 use Rattle.relocation.specs.declared.area.Access.{Access}
@@ -18,7 +19,7 @@ use Rattle.program_order.specs.Units.{after_finish, after_read, after_store, aft
 use Rattle.program_order.specs.Drain.{Accepts, KeepsAccounts, Works, leads_to}
 use Rattle.program_order.proofs.draining.OnPending.{is_work, on_pending}
 
--- the state, the pending instructions and the busy banks are no part of the accounts
+-- state, pending instructions and busy banks are no part of the accounts
 kept_accounts : (w : Processor) (state : State) (pending : List Pending) (busy : List Bool)
     → KeepsAccounts w (record w { state = state; pending = pending; busy = busy })
 kept_accounts w state pending busy = record {
@@ -86,6 +87,6 @@ all_accounts w (e ∷ events) h =
     then_accounts w (after w e) (leads_to (after w e) events) (work_accounts w e (on_pending w.pending e h.1))
     (all_accounts (after w e) events h.2)
 
--- so do the events of a drain
+-- the events of a drain leave the accounts unchanged
 pub works_accounts : (w v : Processor) (n : ℕ) → Works w v n → KeepsAccounts w v
 works_accounts w v n k = subst (KeepsAccounts w) (sym k.leads) (all_accounts w k.events k.accepted)

@@ -1,5 +1,4 @@
--- The work that is left is at most forty: of seven units, three of which make references, four places and
--- five channels.
+-- At most forty events remain: for seven units, three of which make references, four places and five channels.
 use Rattle.std.proofs.Common.{◌≡◌, ◌≢◌, ◌<◌, ◌≤◌, ◌+◌, ◌*◌, ℕ, zero, suc, Bool, true, false, cond, List, [], ◌∷◌, Some}
 use Rattle.std.proofs.Common.{length, refl, sym, ap, ◌∙◌, eqb, arith}
 use Rattle.std.specs.Prelude.{◌&&◌, ◌||◌}
@@ -88,7 +87,7 @@ count_picked f (m ∷ ms) = by_test (f m) (count_picked f ms)
     by_test true e = omega (arith, e)
     by_test false e = omega (arith, e)
 
--- those that meet it are no more than the numbers that they can have
+-- there are no more instructions with a property than numbers that they can have
 count_bound : (f : Pending → Bool) (key : Pending → ℕ) (ns : List ℕ) (R : Pending → Pending → Type 0)
     (P : Pending → Type 0) (ms : List Pending) → ((a b : Pending) → f a ≡ true → f b ≡ true → R a b → key a ≢ key b)
     → ((m : Pending) → f m ≡ true → P m → list_any (eqb (key m)) ns ≡ true) → Pairs R ms → Each P ms
@@ -105,7 +104,7 @@ unfoldable before_in : Phase → Bool
 before_in (Before t) = true
 before_in (After l) = false
 
--- it holds a unit
+-- whether the instruction holds a unit
 unfoldable in_unit : Pending → Bool
 in_unit m = before_in m.phase
 
@@ -119,7 +118,7 @@ load_in h (After (Entered place a (LoadInto n))) = true
 load_in h (After (Entered place a (StoreWord word))) = false
 load_in h (After (Accepted n word)) = true
 
--- it has a load still to return
+-- whether the instruction has a load still to return
 unfoldable has_load : Pending → Bool
 has_load m = load_in (shape_of m.instr) m.phase
 
@@ -143,7 +142,7 @@ stage_bound Unread = omega arith
 stage_bound (HasRead os) = omega arith
 stage_bound (Finished v) = omega arith
 
--- the cost of a phase, and the counts that bound it
+-- the cost of a phase, and the counts that limit it
 unfoldable costs : Unit {0}
 unfolding phase_cost reference_cost outstanding_cost one_if
 costs = tt
@@ -238,7 +237,7 @@ increment_unit i (Registers AMinusB j k) = refl
 increment_unit i (Registers BPlusB j k) = refl
 increment_unit i (Registers BMinusB j k) = refl
 
--- only RJ and the increments make a reference
+-- only RJ and the increment instructions make a reference
 instr_slot : (i : Instr) (u : FunctionalUnit) → has_reference (shape_of i) ≡ true → may_take (uses i).unit u ≡ true
     → list_any (eqb (unit_slot u)) (0 ∷ 5 ∷ 6 ∷ []) ≡ true
 unfolding shape_of has_reference

@@ -1,4 +1,4 @@
--- What is next to be done for the oldest pending instruction is allowed, and takes from the work that is left.
+-- The next event for the oldest pending instruction is allowed, and reduces the remaining work.
 use Rattle.std.proofs.Common.{◌≡◌, ◌≤◌, ◌+◌, ℕ, zero, suc, Bool, true, false, cond, List, [], ◌∷◌, ◌++◌, Option, Some}
 use Rattle.std.proofs.Common.{None, refl, sym, ap, ◌∙◌, subst, get_or, set, arith}
 use Rattle.std.specs.Prelude.{◌&&◌, not, is_some, is_none, IfSome}
@@ -84,7 +84,7 @@ unfolding arrival_at arrival_in
 arrival_first m n word e =
     ap (arrival_in n) e ∙ ap (λ b. cond b (Some (record { channel = n; word = word })) None) (eq-eqb n n refl)
 
--- the tests of an event that finds the oldest
+-- the tests of an event that finds the oldest instruction
 first_allowed : {K : Type 0} (f : Pending → Option K) (tests : Found Pending K → List Test) (ms ls : List Pending)
     (m : Pending) (x : K) → ms ≡ m ∷ ls → f m ≡ Some x
     → Each (λ t. t.fails ≡ false) (tests (record { earlier = []; item = m; answer = x; later = ls }))
@@ -103,7 +103,7 @@ and_true_right : (f g : Bool) → g ≡ true → (f && g) ≡ false → f ≡ fa
 and_true_right false g e h = refl
 and_true_right true g e h = cc
 
--- where the oldest has a reference in its unit, none after it waits in the hopper
+-- if the oldest instruction still has a reference to make, no later instruction waits in the hopper
 none_entered : (m : Pending) (ls : List Pending) → has_turn m ≡ true → Each (IsApart m) ls
     → list_any (in_place 0) ls ≡ false
 unfolding in_place entry_at is_entered
@@ -134,7 +134,7 @@ hopper_has_room b m ms ls v false k e p h = and_left _ _ (enters_nothing b (shap
 hopper_has_room b m ms ls v true k e p h =
     and_right _ _ (place_is_free m ms ls (Finished v) e p (turn_there m (Finished v) p k) h)
 
--- the tests of the events that a drain is made of
+-- the tests of the events of a drain
 unfoldable working_tests : Unit {0}
 unfolding read_tests finish_tests store_tests accept_tests return_tests free_tests
 working_tests = tt
@@ -163,7 +163,7 @@ oldest_allowed w m ls (After (Accepted n word)) e p h =
     first_allowed (arrival_at n) _ w.pending ls m (record { channel = n; word = word }) e (arrival_first m n word p)
     (refl, tt)
 
--- what is next is allowed
+-- the next event is allowed
 next_allowed : (w : Processor) (e : Event) → IsSound w → next_of w.pending w.busy ≡ Some e → allowed w e ≡ None
 unfolding next_of
 next_allowed w e s h = by_list w.pending refl h
@@ -180,7 +180,7 @@ next_is_allowed v w None held s e h k = tt
 next_is_allowed v w (Some x) held s e h k =
     subst (λ y. allowed y x ≡ None) e (next_allowed v x s (sym (k ∙ ap (λ l. next_of l v.busy) h)))
 
--- nothing is next only where nothing is pending
+-- if there is no next event, nothing is pending
 pub nothing_next : (ms : List Pending) (busy : List Bool) → next_of ms busy ≡ None → is_pending ms ≡ false
 unfolding next_of is_pending
 nothing_next [] busy h = refl
@@ -188,7 +188,7 @@ nothing_next (m ∷ ms) busy h = cc
 
 -- ---- it takes from the work that is left ----
 
--- a step that is saved: the oldest is in the hopper and its bank is free, so that only the acceptance is left
+-- the step that is saved if the oldest instruction is in the hopper and its bank is free: only the acceptance remains
 unfoldable pub saved_in : Phase → List Bool → ℕ
 saved_in (Before t) busy = 0
 saved_in (After (Entered place a access)) busy = cond (get_or busy (bank_of a) false) 0 1
@@ -250,7 +250,7 @@ saved_first : (w : Processor) (m : Pending) (ls : List Pending) (p : Phase) → 
 unfolding saved_of
 saved_first w m ls p e k = ap (λ ms. saved_of ms w.busy) e ∙ ap (λ q. saved_in q w.busy) k
 
--- an event that leaves less work than there was
+-- an event that reduces the remaining work
 eases : (w v : Processor) (ms : List Pending) (k : ℕ) → v.pending ≡ ms → saved_of w.pending w.busy ≡ k
     → work_left ms + 1 + k ≤ work_left w.pending → Eases w v
 eases w v ms k e h l = let q : work_left v.pending ≡ work_left ms = ap work_left e in omega (arith, q, h, l)
@@ -319,7 +319,7 @@ entered_eases w m ls place a access false k e p =
     (let j = less_accept w m ls place a access in let n = work_first w m ls (After (Entered place a access)) e p
     in omega (arith, j, n))
 
--- what the events of a unit make of its instruction
+-- the changes that the events of a unit make to its instruction
 unfoldable unit_changes : Unit {0}
 unfolding after_read after_finish after_store after_work stage_after_read stage_after_finish
 unit_changes = tt
@@ -355,7 +355,7 @@ oldest_eases w m ls (After (Accepted n word)) e p =
     (saved_first w m ls (After (Accepted n word)) e p)
     (less_return ls (shape_of m.instr) n word _ (work_first w m ls (After (Accepted n word)) e p))
 
--- what is next takes from the work that is left
+-- the next event reduces the remaining work
 pub next_eases : (w : Processor) (e : Event) → next_of w.pending w.busy ≡ Some e → Eases w (after w e)
 unfolding next_of
 next_eases w e h = by_list w.pending refl h
@@ -382,7 +382,7 @@ saved_less h (After (Entered place a (StoreWord word))) busy = by_bank (get_or b
     by_bank false = omega arith
 saved_less h (After (Accepted n word)) busy = omega arith
 
--- where no work is left nothing is pending
+-- if no work remains, nothing is pending
 pub all_done : (ms : List Pending) (busy : List Bool) → work_left ms ≤ saved_of ms busy → is_pending ms ≡ false
 unfolding work_left saved_of is_pending cost
 all_done [] busy h = refl

@@ -1,4 +1,4 @@
--- A drained machine goes on: nothing that it does not ask for keeps it from the next instruction, or from an exchange.
+-- A drained machine goes on: only its own state can refuse the next issue or exchange.
 use Rattle.std.proofs.Common.{◌≡◌, ◌<◌, ◌≤◌, ℕ, Bool, true, false, cond, leb-true, List, [], ◌∷◌, Option, Some, None}
 use Rattle.std.proofs.Common.{refl, ap, ◌∙◌, arith}
 use Rattle.std.proofs.lemmas.Bool.{and_right}

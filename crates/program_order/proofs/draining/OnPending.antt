@@ -1,4 +1,4 @@
--- What is next to be done works on what is pending, and what works on it is neither an issue nor about an exchange.
+-- `drain` makes only events that serve a pending instruction; issues and exchanges aren't among them.
 use Rattle.std.proofs.Common.{◌≡◌, ℕ, Bool, true, false, cond, List, [], ◌∷◌, Option, Some, None, refl, sym, ap, ◌∙◌}
 use Rattle.std.proofs.Common.{subst, get_or}
 use Rattle.std.specs.Prelude.{◌||◌, IfSome, is_some}
@@ -20,7 +20,7 @@ use Rattle.program_order.specs.declared.event.Event.TheVariants.{Return, BankFre
 use Rattle.program_order.specs.Drain.{holds_unit, in_channel, next_in, next_of, waits_for, waits_for_in, works_on}
 use Rattle.program_order.proofs.draining.Draining.{arrival_first, entry_first, stage_first}
 
--- neither an issue, nor about an exchange, nor a peripheral access
+-- whether an event is no issue, no part of an exchange and no peripheral access
 unfoldable pub is_work : Event → Bool
 is_work Issue = false
 is_work (Ask n) = false
@@ -43,7 +43,7 @@ on_pending ms Exchange h = cc
 on_pending ms (PpRead a) h = cc
 on_pending ms (PpWrite a v) h = cc
 
--- the first of them meets the test
+-- if the first instruction meets the test, some instruction does
 first_any : (f : Pending → Bool) (m : Pending) (ms : List Pending) → f m ≡ true → list_any f (m ∷ ms) ≡ true
 first_any f m ms h = ap (λ b. b || list_any f ms) h
 
@@ -79,7 +79,7 @@ oldest_works m ms (After (Entered place a access)) busy e = by_bank (get_or busy
     by_bank false = first_any (in_place place) m ms (place_first m place a access e)
 oldest_works m ms (After (Accepted n word)) busy e = first_any (in_channel n) m ms (channel_first m n word e)
 
--- what is next works on what is pending
+-- the next event serves a pending instruction
 pub next_works_on : (ms : List Pending) (busy : List Bool) (e : Event) → next_of ms busy ≡ Some e
     → works_on ms e ≡ true
 unfolding next_of
@@ -93,7 +93,7 @@ pub next_on_pending : (ms : List Pending) (busy : List Bool) (o : Option Event) 
 next_on_pending ms busy None h = tt
 next_on_pending ms busy (Some e) h = next_works_on ms busy e (sym h)
 
--- something is next exactly where something is pending
+-- there is a next event exactly if something is pending
 pub next_if_pending : (ms : List Pending) (busy : List Bool) (o : Option Event) → o ≡ next_of ms busy
     → is_some o ≡ is_pending ms
 unfolding next_of is_pending

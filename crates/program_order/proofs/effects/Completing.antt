@@ -1,4 +1,4 @@
--- A change that no pending instruction touches is made before them all as well as after them all.
+-- A change that no pending instruction touches has the same effect before and after all of them.
 use Rattle.scoreboard.specs.Reservations as board
 use Rattle.in_flight.specs.Pending.{is_branch, to_come}
 use Rattle.in_flight.proofs.asking.PendingReservations.{comes, reads}
@@ -28,7 +28,7 @@ use Rattle.sequential.specs.declared.position.ProgramPosition.{ProgramPosition}
 use Rattle.sequential.specs.declared.state.State.{State}
 use Rattle.unit_ops.specs.declared.UnitValue.{UnitValue}
 
--- the change is made before the instruction as well as after it
+-- the change has the same effect before and after the instruction
 abbrev pub Commutes : Bounds → (State → State) → Pending → Type 0
 Commutes b c m = (s : State) → finish_effects b (c s) m ≡ c (finish_effects b s m)
 
@@ -44,7 +44,7 @@ unfolding complete
 complete-change b c [] h s = refl
 complete-change b c (m ∷ ms) h s = ap (λ x. complete b x ms) (h.0 s) ∙ complete-change b c ms h.1 (finish_effects b s m)
 
--- what each instruction leaves, all leave
+-- a value that each instruction leaves unchanged is unchanged by all
 pub complete-keeps : {K : Type 0} (b : Bounds) (f : State → K) (ms : List Pending)
     → Each (λ m. (s : State) → f (finish_effects b s m) ≡ f s) ms → (s : State) → f (complete b s ms) ≡ f s
 unfolding complete
@@ -63,7 +63,7 @@ complete-bounds b s ms = complete-keeps b bounds_of ms (each_all _ (λ m x. fini
 pub complete-halted : (b : Bounds) (s : State) (ms : List Pending) → (complete b s ms).halt ≡ s.halt
 complete-halted b s ms = complete-keeps b (λ x. x.halt) ms (each_all _ (λ m x. finish_effects-halted b x m) ms) s
 
--- it is no branch
+-- the instruction is no branch
 abbrev pub IsNoBranch : Pending → Type 0
 IsNoBranch m = is_branch m ≡ false
 
@@ -85,7 +85,7 @@ pub complete-halt : (b : Bounds) (s : State) (ms : List Pending) (k : Halt)
     → complete b (halt_by s k) ms ≡ halt_by (complete b s ms) k
 complete-halt b s ms k = complete-change b (λ x. halt_by x k) ms (each_all _ (λ m x. finish_effects-halt b x m k) ms) s
 
--- a word to which none stores
+-- a word to which no instruction stores
 pub complete-word : (b : Bounds) (s : State) (ms : List Pending) (a : ℕ) → Each (λ m. may_store a m ≡ false) ms
     → get_or (complete b s ms).memory a 0 ≡ get_or s.memory a 0
 complete-word b s ms a h = complete-keeps b (λ x. get_or x.memory a 0) ms

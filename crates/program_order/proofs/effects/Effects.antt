@@ -1,4 +1,4 @@
--- Changes of the state that don't touch one another, made in either order.
+-- Changes of different parts of the state, made in either order.
 use Rattle.in_flight.specs.Pending.{returning}
 use Rattle.sequential.specs.Position.{after_jump}
 use Rattle.scoreboard.specs.Reservations.{returning_to}
@@ -40,7 +40,7 @@ unfoldable pub do_option : State → Option Outstanding → State
 do_option s None = s
 do_option s (Some l) = do_outstanding s l
 
--- the whole of a reservation's work, in two parts: what it does now, and what is left
+-- all the work of a reservation, in two parts: the work done now, and the rest
 unfoldable pub do_parts : Bounds → State → Work → State
 do_parts b s w = do_option (write_and_jump b s w) (rest_of b 0 w.reference)
 
@@ -145,7 +145,7 @@ unfolding do_option
 do_option-move s None p = refl
 do_option-move s (Some l) p = do_outstanding-move s l p
 
--- a reservation that is no branch leaves the place alone
+-- a reservation that is no branch leaves the program position unchanged
 pub no_jump : (h : Shape) (x : UnitValue) → is_branch_shape h ≡ false → jump_for h x ≡ None
 unfolding jump_for
 no_jump h x e = rw e refl
@@ -274,7 +274,7 @@ or_fault-store_word : (s : State) (f : Bool) (a w : ℕ) → or_fault (store_wor
 unfolding or_fault store_word
 or_fault-store_word s f a w = refl
 
--- what is left of a reference is about another address
+-- the outstanding reference is to another address
 unfoldable pub later_touches : ℕ → Outstanding → Bool
 later_touches a (Entered slot k access) = eqb k a
 later_touches a (Accepted n w) = false
@@ -308,7 +308,7 @@ no_rest : (b : Bounds) (s : State) (r : Option ProgramReference) → r ≡ None 
 unfolding do_option relocated outstanding_of
 no_rest b s r e = rw e refl
 
--- a reservation without a reference is done at the store event
+-- a reservation without a reference is done at its store event
 pub do_parts-now : (b : Bounds) (s : State) (h : Shape) (x : UnitValue) → has_reference h ≡ false
     → do_parts b s (work_of h x) ≡ write_and_jump b s (work_of h x)
 unfolding do_parts work_of
@@ -373,7 +373,7 @@ do_parts-get b s h x r p q =
     ∙ ap (λ g. get g r) (jump_to-registers _ (jump_for h x))
     ∙ write_all-get s _ (sets_of h) r p
 
--- what is left of a reference may store to the address
+-- whether the outstanding reference may store to the address
 unfoldable pub later_stores : ℕ → Outstanding → Bool
 later_stores a (Entered slot k (StoreWord w)) = eqb k a
 later_stores a (Entered slot k (LoadInto n)) = false

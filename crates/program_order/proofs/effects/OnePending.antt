@@ -1,4 +1,4 @@
--- What one pending instruction doesn't touch.
+-- The parts of the state that a pending instruction doesn't touch.
 use Rattle.scoreboard.specs.Reservations as board
 use Rattle.in_flight.specs.Pending.{has_read, occupancy_of, returning, reservation_of, is_branch, to_come}
 use Rattle.in_flight.proofs.asking.PendingReservations.{reads}
@@ -45,7 +45,7 @@ use Rattle.sequential.specs.declared.position.ProgramPosition.{ProgramPosition}
 use Rattle.sequential.specs.declared.state.State.{State}
 use Rattle.unit_ops.specs.Values.{value_of}
 
--- what holds of each register of a list holds of one that is among them
+-- from all to a member
 holds_of_one : (P : Reg → Type 0) (r : Reg) (rs : List Reg) → list_any (reg_eq r) rs ≡ true → Each P rs → P r
 holds_of_one P r [] h e = cc
 holds_of_one P r (t ∷ rs) h e = by_test (reg_eq r t) refl h (λ k. holds_of_one P r rs k e.1)
@@ -59,7 +59,7 @@ b0_agrees : (g k : RegisterFile) (r : Reg) → r ≡ B 0 → get g r ≡ get k r
 unfolding get
 b0_agrees g k r e = ap (get g) e ∙ sym (ap (get k) e)
 
--- registers that agree on the sources with one more agree on it
+-- register files that agree on the sources and one more register agree on that register
 operand-agree : (g k : RegisterFile) (rs : List Reg) (o : Option Reg)
     → Each (λ r. get g r ≡ get k r) (with_source rs o) → Each (λ r. get g r ≡ get k r) rs
     × (operand_at g o ≡ operand_at k o)
@@ -77,7 +77,7 @@ operand-agree g k rs (Some r) h = by_test (reg_eq r (B 0)) refl (list_any (reg_e
     by_test false i true j e = (e, holds_of_one P r rs j e)
     by_test false i false j e = (each_left P rs (r ∷ []) e, (each_right P rs (r ∷ []) e).0)
 
--- registers that agree on the sources give the same operands
+-- register files that agree on the sources give the same operands
 pub operands-agree : (i : Instr) (at : ℕ) (g k : RegisterFile) → Each (λ r. get g r ≡ get k r) (sources_of i)
     → operands i at g ≡ operands i at k
 unfolding operands
@@ -208,7 +208,7 @@ pub finish_effects-or_fault : (b : Bounds) (s : State) (m : Pending) (f : Bool) 
 unfolding finish_effects
 finish_effects-or_fault b s m f = phase-or_fault b s m.instr m.at m.phase f
 
--- the instruction may read or write the absolute address
+-- whether the instruction may read or write the absolute address
 unfoldable pub touches : ℕ → Pending → Bool
 touches a m = touches_in (has_reference (shape_of m.instr)) a m.phase
 

@@ -1,4 +1,5 @@
--- No more instructions are issued than the budget: only an issue adds one to the log, and it is refused at the budget.
+-- No more instructions are issued than the budget allows: only an issue adds one to the log, and it is refused at the
+-- budget.
 use Rattle.std.proofs.Common.{◌≡◌, ◌≤◌, ◌+◌, ℕ, false, List, Option, Some, None, refl, ap, ◌∙◌, arith, leb}
 use Rattle.std.proofs.lemmas.Bool.{leb-false}
 use Rattle.sequential.specs.Log.{issued}
@@ -15,7 +16,7 @@ use Rattle.program_order.specs.Processor.{Processor, boot_processor}
 use Rattle.program_order.specs.Invariant.{IsWithinBudget}
 use Rattle.program_order.proofs.theorem.Headline.{Books, books_after}
 
--- an issue that is allowed finds the budget not used up
+-- an allowed issue finds the budget not yet used up
 below : (w : Processor) → allowed w Issue ≡ None → leb w.budget (issued w.log) ≡ false
 unfolding allowed tests_of issue_tests
 below w h = (refusal_none _ h).1.1.0
@@ -27,7 +28,7 @@ within_by w v r xs b h =
     let k = b.budget in
     omega (arith, e, k, h)
 
--- what no issue adds has no instruction
+-- steps that no issue added contain no instruction
 within_still : (w v : Processor) (r : Option ℕ) (xs : List LogStep) → Books w v r xs → issued xs ≡ 0
     → IsWithinBudget w → IsWithinBudget v
 within_still w v r xs b n h = within_by w v r xs b (omega (arith, n, h))

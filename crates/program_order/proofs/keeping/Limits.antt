@@ -1,4 +1,4 @@
--- There is no place, channel or bank but those of the machine, and where no word is held the next parcel is 0.
+-- Places, channels and banks have valid numbers, and if no word is held, the next parcel is 0.
 use Rattle.std.proofs.Common.{◌≡◌, ◌<◌, ◌≤◌, ◌+◌, ◌%◌, ◌^◌, ℕ, zero, suc, Bool, true, false, cond, List, [], ◌∷◌}
 use Rattle.std.proofs.Common.{Option, Some, None, length, refl, sym, ap, subst, eqb, ltb, get_or, arith}
 use Rattle.std.specs.Prelude.{not}
@@ -147,7 +147,7 @@ unfolding after_exchange
 banks_exchange w None = refl
 banks_exchange w (Some n) = refl
 
--- an event leaves as many banks as there were
+-- an event leaves the number of banks unchanged
 pub event_banks : (w : Processor) (e : Event) → length (after w e).busy ≡ length w.busy
 unfolding after after_read after_finish after_return after_pp_read after_pp_write
 event_banks w Issue = banks_issue w _
@@ -217,7 +217,7 @@ begins_fetched : (b : Bounds) (memory : List ℕ) (position : ProgramPosition) �
 unfolding fetch
 begins_fetched b memory position = begins_from position.p position.parcel (word_seen b memory position.p position.held)
 
--- a machine that is at the beginning of a word where none is held
+-- if no word is held, the machine is at the beginning of a word
 abbrev Starts : Processor → Type 0
 Starts w = IsAtBeginning w.state.position
 
@@ -267,7 +267,7 @@ unfolding after_exchange swap program_entered
 starts_exchange w None h = h
 starts_exchange w (Some n) h = λ e. refl
 
--- an event leaves the machine at the beginning of a word, where it leaves no word held
+-- an event that leaves no word held leaves the machine at the beginning of a word
 pub event_starts : (w : Processor) (e : Event) → Starts w → Starts (after w e)
 unfolding after after_read after_finish after_return after_pp_read after_pp_write write store_word
 event_starts w Issue h = starts_issue w _ (begins_fetched (bounds_of w.state) w.state.memory w.state.position)

@@ -1,4 +1,4 @@
--- Each refusal is one of those that its event may have.
+-- Each refusal is one that its event may have.
 use Rattle.std.proofs.Common.{◌≡◌, Bool, true, false, ◌||◌, List, [], ◌∷◌, Option, Some, None, refl, sym, ap, ◌∙◌}
 use Rattle.std.proofs.Common.{subst, cond, inl, inr}
 use Rattle.std.proofs.lemmas.Option.{same_Some}
@@ -32,7 +32,7 @@ use Rattle.in_flight.specs.Lookup.{stage_at}
 use Rattle.sequential.specs.State.{Bounds, bounds_of}
 use Rattle.program_order.proofs.Opened.{refusals_by_event}
 
--- what is refused by a list of tests is one of their refusals
+-- a refusal by a list of tests is the refusal of one of the tests
 pub one_of : (p : Refusal → Bool) (ts : List Test) (k : Refusal) → Each (λ t. p t.refusal ≡ true) ts
     → refusal_of ts ≡ Some k → p k ≡ true
 unfolding refusal_of
@@ -44,7 +44,7 @@ one_of p (t ∷ ts) k h e = by_test (one_of p ts k h.1) t.fails e
     by_test rest true i = ap p (sym (same_Some t.refusal k i)) ∙ h.0
     by_test rest false i = rest i
 
--- where nobody is found there is nothing to act on
+-- if no instruction is found, the refusal is `Nothing`
 found_one_of : {K : Type 0} (p : Refusal → Bool) (o : Option (Found Pending K)) (f : Found Pending K → List Test)
     (k : Refusal) → ((x : Found Pending K) → Each (λ t. (is_nothing t.refusal || p t.refusal) ≡ true) (f x))
     → refusal_of (tests_found o f) ≡ Some k → (is_nothing k || p k) ≡ true
@@ -107,7 +107,7 @@ refusal_named w (PpRead a) k h =
 refusal_named w (PpWrite a v) k h =
     one_of is_access_refusal (access_tests w.accessed w.pending _ a) k (refl, (refl, (refl, tt))) h
 
--- only an event that makes room in the log wants memory
+-- only an event that needs room in the log can be refused for want of memory
 room_named : (e : Event) → makes_room e ≡ true → may_refuse e OutOfMemory ≡ true
 unfolding makes_room may_refuse is_ask_refusal is_access_refusal
 room_named (Ask n) h = refl

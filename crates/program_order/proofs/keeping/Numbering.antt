@@ -1,4 +1,4 @@
--- Reservations are numbered along the log: each event keeps the last one's number, and an issue answers the next.
+-- Reservations are numbered along the log: an event keeps the last number, and an issue answers with the next one.
 use Rattle.std.proofs.Common.{◌≡◌, ◌+◌, ℕ, suc, true, false, List, [], ◌∷◌, ◌++◌, Option, Some, None, refl, sym}
 use Rattle.std.proofs.Common.{ap, ◌∙◌, subst, arith, inl, inr}
 use Rattle.std.proofs.lemmas.Option.{same_Some}
@@ -51,7 +51,7 @@ use Rattle.program_order.proofs.keeping.Slotted.{unit_found}
 use Rattle.program_order.proofs.theorem.Issuing.{fetch-same}
 use Rattle.program_order.proofs.theorem.Theorem.{is_some_none, made_allowed}
 
--- the completed state takes what the present one does
+-- the completed state makes the same reservations as the present state
 taken_completed : (w : Processor) → w.state.halt ≡ None → list_any is_branch w.pending ≡ false
     → fetch_waits (bounds_of w.state) w.state.position w.pending ≡ false
     → taken_in (completed w) ≡ taken_by (fetch (bounds_of w.state) w.state.memory w.state.position)
@@ -84,7 +84,7 @@ unfolding after_accept
 numbers_accept w f a (LoadInto n) h = h
 numbers_accept w f a (StoreWord v) h = h
 
--- one more step that is no instruction
+-- after one more step that is no instruction
 numbers_step : (w : Processor) (x : LogStep) → ((s : State) → taken_at s x ≡ 0) → IsReplay w → IsNumbered w
     → w.last ≡ taken (boot w.boot_memory) (w.log ++ x ∷ [])
 unfolding replayed
@@ -98,7 +98,7 @@ unfolding after_exchange taken_at
 numbers_exchange w None r h = h
 numbers_exchange w (Some n) r h = numbers_step w (Exchanged n) (λ s. refl) r h
 
--- one more issue
+-- after one more issue
 issued_count : (w : Processor) (g : Fetched) → IsReplay w → taken_in (completed w) ≡ taken_by g
     → taken (boot w.boot_memory) (w.log ++ Issued ∷ []) ≡ taken (boot w.boot_memory) w.log + one_for (taken_by g)
 unfolding replayed taken_at

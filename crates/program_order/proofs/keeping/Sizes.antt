@@ -1,4 +1,4 @@
--- Memory keeps its size, and the package of a request lies in it.
+-- Memory keeps its size, and the package of a request is within it.
 use Rattle.std.specs.Prelude.{option_and_then}
 use Rattle.std.proofs.Common.{◌≡◌, ◌≤◌, ◌+◌, ℕ, Bool, true, false, List, [], ◌∷◌, Option, Some, None, cond, length}
 use Rattle.std.proofs.Common.{refl, sym, ap, ◌∙◌, subst, ltb}
@@ -74,14 +74,14 @@ replay_size s (x ∷ xs) t h = after (do_log_step s x) refl (λ u. replay_size u
     after None e ih k = absurd (false≢true (ap is_some k))
     after (Some u) e ih k = ih u k ∙ log_step_size s x u e
 
--- the boot memory is of the memory's size
+-- the boot memory has the size of the memory
 pub boot_size : (w : Processor) → IsReplay w → length w.boot_memory ≡ length w.state.memory
 unfolding completed replayed boot bounds_of
 boot_size w r =
     sym (replay_size (boot w.boot_memory) w.log (completed w) r)
     ∙ ap (λ (d : Bounds). d.size) (complete-bounds (bounds_of w.state) w.state w.pending)
 
--- the package of a request lies in memory
+-- the package of a request is within memory
 pub request_within : (w : Processor) (at : ℕ) → Fits w.request (length w.state.memory) → w.request ≡ Some at
     → package_fits at (length w.state.memory) ≡ true
 request_within w at f e = subst (λ o. Fits o (length w.state.memory)) e f

@@ -1,4 +1,4 @@
--- What each event leaves, one instruction after another: slots stay apart.
+-- Slots after each event, instruction by instruction: no two instructions share one.
 use Rattle.std.proofs.Common.{◌≡◌, ◌<◌, ◌+◌, ℕ, Bool, true, false, cond, List, [], ◌∷◌, ◌++◌, Option, Some, None}
 use Rattle.std.proofs.Common.{length, refl, sym, ap, ◌∙◌, subst, get_or, arith}
 use Rattle.std.proofs.lemmas.Bool.Decides.{nat_tests}
@@ -142,7 +142,7 @@ unfolding relocated outstanding_of
 rest_free b p None l ms h e = cc
 rest_free b p (Some r) l ms h e = entering_free p (absolute b r.address) r.access l ms h e
 
--- where a reference enters, the place that it takes is a free one of the four
+-- an entering reference takes a free place among the four
 place_taken : (ms : List Pending) (f : Bool) → (f && is_none (place_for ms)) ≡ false → f ≡ true
     → (list_any (in_place (unwrap_or (place_for ms) 0)) ms ≡ false) × (unwrap_or (place_for ms) 0 < 4)
 place_taken ms f h e = by_place (place_for ms) refl (ap (λ x. x && is_none (place_for ms)) (sym e) ∙ h)
@@ -154,7 +154,7 @@ place_taken ms f h e = by_place (place_for ms) refl (ap (λ x. x && is_none (pla
 
 -- ---- the events ----
 
--- slots after an event
+-- the slots after an event
 abbrev pub IsSlottedWhole : Processor → Type 0
 IsSlottedWhole w = HasOwnSlots (length w.state.memory) w.pending
 
@@ -254,7 +254,7 @@ return_slotted w c (Some f) e h =
 
 -- ---- issue ----
 
--- a unit of the kind has a slot
+-- a unit of this kind has a slot
 abbrev IsInUse : UnitKind → FunctionalUnit → Type 0
 IsInUse kind u = (unit_slot u < 7) × (may_take (Some kind) u ≡ true)
 

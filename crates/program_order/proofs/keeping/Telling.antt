@@ -1,4 +1,4 @@
--- What a refusal tells of the state to which the log leads.
+-- What a refusal says about the state that the log leads to.
 use Rattle.std.proofs.Common.{◌≡◌, ◌⊎◌, ◌||◌, ℕ, Bool, true, false, List, [], ◌∷◌, Option, Some, None, cond, refl}
 use Rattle.std.proofs.Common.{sym, ap, ◌∙◌, subst, get_or, inl, inr, ⊎_elim}
 use Rattle.std.proofs.lemmas.Bool.{and_parts}
@@ -57,7 +57,7 @@ complete-fault b s ms h =
 
 -- ---- the first refusal ----
 
--- the first test refuses, or one behind it
+-- the first test refuses, or a later one
 first_or_rest : (t : Test) (ts : List Test) (k : Refusal) → refusal_of (t ∷ ts) ≡ Some k
     → ((t.fails ≡ true) × (t.refusal ≡ k)) ⊎ ((t.fails ≡ false) × (refusal_of ts ≡ Some k))
 unfolding refusal_of
@@ -226,7 +226,7 @@ answer_why w e (Err k) (inr r) = wanting (completed w) k r.want
 
 -- ---- what a made event tells ----
 
--- an exchange is made only where one was asked for
+-- an exchange is made only if one was requested
 pub exchange_asked : (w : Processor) → allowed w Exchange ≡ None → (n : ℕ) × (w.request ≡ Some n)
 unfolding allowed tests_of exchange_tests
 exchange_asked w h = by_request w.request refl (refusal_none _ h).0
@@ -235,7 +235,7 @@ exchange_asked w h = by_request w.request refl (refusal_none _ h).0
     by_request None e k = absurd (cc)
     by_request (Some n) e k = (n, e)
 
--- the word that a peripheral processor read is that of the state to which the log leads
+-- the word that a peripheral processor read is in the state that the log leads to
 pub word_told : (w v : Processor) (a : ℕ) (r : Result Done Refusal) (d : Done) → IsAnswer w (PpRead a) r
     → v ≡ settled w (PpRead a) r → r ≡ Ok d → d ≡ Word (get_or (completed v).memory a 0)
 unfolding done_by settled after after_pp_read completed

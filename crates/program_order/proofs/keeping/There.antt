@@ -1,4 +1,4 @@
--- What the slots say of the instruction that was found.
+-- Facts about a found instruction that follow from the slots.
 use Rattle.std.proofs.Common.{◌≡◌, ◌<◌, ℕ, true, Option, Some, None, List, length, refl, subst}
 use Rattle.std.specs.Prelude.{IsSome, IfSome}
 use Rattle.instructions.specs.Operands.{uses}
@@ -31,7 +31,7 @@ unfolding may_take
 has_some None u h = cc
 has_some (Some kind) u h = refl
 
--- its instruction has a unit
+-- the found instruction has a unit
 pub unit_there : {K : Type 0} (size : ℕ) (ms : List Pending) (g : Pending → Option K) (m : Pending) (k : K)
     → located (seek g ms) ≡ Some (record { pending = m; answer = k }) → HasOwnSlots size ms → IsSome (uses m.instr).unit
 unit_there {K} size ms g m k h s = found (seek g ms) refl h
@@ -43,7 +43,7 @@ unit_there {K} size ms g m k h s = found (seek g ms) refl h
         (sought_pending f (record { pending = m; answer = k }) i)
         (has_some (uses f.item.instr).unit f.item.unit (found_proper size ms g f e s).of_kind)
 
--- its address lies in memory
+-- the address of the reference is within memory
 pub entry_within : (w : Processor) (place : ℕ) (r : Reference) → allowed w (Accept place) ≡ None
     → IfSome (seek (entry_at place) w.pending) (λ f. f.answer ≡ record { address = r.address; access = r.access })
     → HasOwnSlots (length w.state.memory) w.pending → r.address < length w.state.memory

@@ -1,4 +1,4 @@
--- What leads to a machine, call by call.
+-- Reaching a machine, call by call.
 use Rattle.std.proofs.Common.{◌≡◌, ℕ, true, false, List, [], ◌∷◌, ◌++◌, drop, length, replicate, append_assoc, None}
 use Rattle.std.proofs.Common.{refl, sym, ap, ◌∙◌, subst, subst₂, inl}
 use Rattle.std.proofs.Math.Seq.{drop-append_seam}
@@ -19,7 +19,6 @@ use Rattle.program_order.proofs.draining.OnPending.{is_work, on_pending}
 use Rattle.program_order.proofs.theorem.Headline.{fault_run}
 use Rattle.program_order.proofs.reaching.Runs.{answered_append, answered_rest, settled_append}
 use Rattle.program_order.proofs.reaching.Seats.{same_run, seated_accepts, seated_answers}
-use Rattle.program_order.proofs.theorem.Theorem.{made_allowed}
 
 -- ---- one call ----
 
@@ -59,7 +58,7 @@ work_done w Exchange h = cc
 work_done w (PpRead a) h = cc
 work_done w (PpWrite a v) h = cc
 
--- an allowed event that works on what is pending is answered that it was made
+-- an allowed event that serves a pending instruction answers `Made`
 work_answer : (w : Processor) (e : Event) → is_work e ≡ true → allowed w e ≡ None → IsAnswer w e (Ok Made)
 unfolding answer_of answer_by
 work_answer w e i h = inl (ap Ok (sym (work_done w e i)) ∙ ap (answer_by (done_by w e)) (sym h))
@@ -68,11 +67,6 @@ pub work_goes_on : (w v : Processor) (e : Event) → is_work e ≡ true → allo
     → GoesOn w (e ∷ []) (Ok Made ∷ []) v
 unfolding settled
 work_goes_on w v e i h k = event_goes_on w v e (Ok Made) (work_answer w e i h) k
-
-pub made_goes_on : (w v : Processor) (e : Event) (done : Done) → is_work e ≡ true → Ok done ≡ answer_of w e
-    → v ≡ settled w e (Ok done) → GoesOn w (e ∷ []) (Ok Made ∷ []) v
-unfolding settled
-made_goes_on w v e done i h k = work_goes_on w v e i (made_allowed w e done (inl h)) k
 
 pub run_goes_on : (w v : Processor) (events : List Event) (old new : List (Result Done Refusal))
     → IsRun w v events old new → GoesOn w events (drop (length old) new) v

@@ -1,4 +1,4 @@
--- One more event of a run, and one more of a drain.
+-- One more event of a run, and one more event of a drain.
 use Rattle.std.proofs.Common.{◌≡◌, ◌<◌, ◌≤◌, ◌+◌, ℕ, zero, suc, true, false, List, [], ◌∷◌, ◌++◌, Option, Some, None}
 use Rattle.std.proofs.Common.{take, length, length-append, get_or, append_assoc, refl, sym, ap, ◌∙◌, subst, add-one}
 use Rattle.std.proofs.Common.{arith, inl, inr}
@@ -21,7 +21,7 @@ use Rattle.program_order.proofs.draining.OnPending.{is_work, next_works_on, on_p
 
 -- ---- a run ----
 
--- two runs, one after the other
+-- two runs in sequence
 pub answered_append : (w : Processor) (es fs : List Event) (given more : List (Result Done Refusal))
     → IsAnswered w es given → IsAnswered (settled_all w es given) fs more → IsAnswered w (es ++ fs) (given ++ more)
 unfolding settled_all
@@ -38,7 +38,7 @@ settled_append w [] fs (a ∷ given) more h = absurd h
 settled_append w (e ∷ es) fs [] more h = absurd h
 settled_append w (e ∷ es) fs (a ∷ given) more h = settled_append (settled w e a) es fs given more h.1
 
--- what is left of a run after its first part
+-- the rest of a run after its first part
 pub answered_rest : (w : Processor) (es fs : List Event) (given more : List (Result Done Refusal))
     → IsAnswered w es given → IsAnswered w (es ++ fs) (given ++ more) → IsAnswered (settled_all w es given) fs more
 unfolding settled_all
@@ -55,7 +55,7 @@ take_next es i d l = ap (λ n. take n es) (add-one i) ∙ next es i d l
     next (x ∷ es) zero d l = refl
     next (x ∷ es) (suc i) d l = ap (λ k. x ∷ k) (next es i d (omega arith))
 
--- what the first events of a run did
+-- the effect of the first events of a run
 pub record Running (w v : Processor) (events : List Event) (old new : List (Result Done Refusal)) : Type 0 where
   pub given : List (Result Done Refusal)
   pub added : new ≡ old ++ given
@@ -131,7 +131,7 @@ works_more w v x n e d a k l o h s i =
       limit = omega (arith, l);
     }
 
--- so many events were made, and what is left to be done fits what is left of the forty
+-- this many events were made, and the remaining work fits the rest of the forty
 pub record Draining (w v : Processor) (made : ℕ) : Type 0 where
   pub works : Works w v made
   pub left : 0 < made → made + work_left v.pending ≤ 40 + saved_of v.pending v.busy
@@ -162,7 +162,7 @@ no_growth Exchange h k = cc
 no_growth (PpRead a) h k = cc
 no_growth (PpWrite a v) h k = cc
 
--- an allowed event that works on what is pending is made
+-- an allowed event that serves a pending instruction is made
 surely_made : (v : Processor) (e : Event) (a : Result Done Refusal) → allowed v e ≡ None → is_work e ≡ true
     → IsAnswer v e a → a ≡ Ok (done_by v e)
 unfolding answer_of answer_by
@@ -182,7 +182,7 @@ draining_more w v x n o e a k l b h oh oe s i =
       left = λ _. eased v x n k.left b (subst (Eases v) (sym (i ∙ ap (settled v e) made)) (next_eases v e next));
     }
 
--- nothing is next
+-- there is no next event
 pub nothing_left : (v : Processor) (o : Option Event) → o ≡ next_of v.pending v.busy → o ≡ None
     → is_pending v.pending ≡ false
 nothing_left v o h k = nothing_next v.pending v.busy (sym h ∙ k)

@@ -1,4 +1,4 @@
--- Whether the seats were given out changes neither an answer nor what an event leaves.
+-- Handing out the seats changes neither an answer nor an event's effect.
 use Rattle.std.proofs.Common.{◌≡◌, ℕ, Bool, List, [], ◌∷◌, Option, Some, None, refl, sym, ap, ◌∙◌, subst, inl, inr}
 use Rattle.std.specs.Prelude.{Result, Ok, Err}
 use Rattle.instructions.specs.declared.refusal.Refusal.{Refusal}
@@ -26,7 +26,7 @@ use Rattle.program_order.specs.Units.{after_finish, after_read, after_store, aft
 use Rattle.program_order.specs.Issue.{after_issue}
 use Rattle.program_order.specs.Drain.{Accepts}
 
--- the machine, with its seats given out or not
+-- the machine with its seats handed out or not
 abbrev pub seated : Bool → Processor → Processor
 seated b w = record w { seats_given = b }
 
@@ -75,7 +75,7 @@ issue_after b w (Halting h place) = refl
 issue_after b w (Passing place) = refl
 issue_after b w (Taking i place) = refl
 
--- what is made of the instruction that was found
+-- the effect on the found instruction
 found_after : {K : Type 0} (b : Bool) (w : Processor) (o : Option (Found Pending K))
     (f g : Found Pending K → Processor) → ((x : Found Pending K) → f x ≡ seated b (g x))
     → after_found (seated b w) o f ≡ seated b (after_found w o g)
@@ -130,7 +130,7 @@ same_run b w (e ∷ events) [] = refl
 same_run b w (e ∷ events) (a ∷ answers) =
     ap (λ x. settled_all x events answers) (same_settled b w e a) ∙ same_run b (settled w e a) events answers
 
--- an answer that may be given may be given whether or not the seats were given out
+-- a possible answer is possible whether or not the seats were handed out
 seated_answer : (b : Bool) (w : Processor) (e : Event) (a : Result Done Refusal) → IsAnswer w e a
     → IsAnswer (seated b w) e a
 seated_answer b w e a (inl h) = inl (h ∙ sym (same_answer b w e))

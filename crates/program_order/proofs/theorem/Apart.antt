@@ -1,4 +1,4 @@
--- What the tests of an event, and that pending instructions are apart, give for the earlier ones.
+-- Facts about the earlier instructions that follow from an event's tests and from the instructions being apart.
 use Rattle.scoreboard.specs.Conflicts as conflict
 use Rattle.scoreboard.specs.Reservations as board
 use Rattle.in_flight.specs.Pending.{occupancy_of, reservation_of, awaited, entered_in, has_turn, holds_back}
@@ -88,7 +88,7 @@ pub results_still : (h : Shape) (ts : List Reg) → overlap (results h) ts ≡ f
 unfolding overlap results
 results_still h ts k = any_right (is_in ts) (sets_of h) (loads_of h) k
 
--- the registers that an instruction is about to write at its store event are free of the earlier ones
+-- the earlier instructions leave the registers alone that an instruction writes at its store event
 pub free_to_put : (es : List Pending) (m : Pending) (t : Stage) → m.phase ≡ Before t → Each (λ e. IsApart e m) es
     → list_any (to_be_read es) (sets_of (shape_of m.instr)) ≡ false
     → Each (λ r. Each (IsFree r) es) (sets_of (shape_of m.instr))
@@ -106,7 +106,7 @@ free_to_put es m t e apart h =
     (λ y i j. record { not_to_come = i; not_read = j }) es p q)
     rs cols (none_reads es rs h)
 
--- the register of a load that waits in its channel
+-- the earlier instructions leave the register of a load in its channel alone
 pub free_to_return : (es : List Pending) (m : Pending) (c w : ℕ) → m.phase ≡ After (Accepted c w)
     → Each (λ e. IsApart e m) es → to_be_read es (X c) ≡ false → Each (IsFree (X c)) es
 unfolding results_to_come operands_to_read target_of conflict.to_be_read reads_it board.reads_it
@@ -127,7 +127,8 @@ touches-from f a (Before t) h k = h
 touches-from f a (After (Entered slot x access)) h k = k
 touches-from f a (After (Accepted n w)) h k = refl
 
--- a store keeps its order beside all references to its address, so what doesn't hold it back is elsewhere
+-- a store keeps its order with every reference to its address, so a reference that doesn't hold it back has another
+-- address
 touches-unless-held : (f : Bool) (a v : ℕ) (p : Phase) → before_and f p ≡ false
     → holds_back_in a (StoreWord v) p ≡ false → touches_in f a p ≡ false
 unfolding before_and holds_back_in keep_order is_store touches_in later_touches is_reserved occupancy_of
@@ -151,7 +152,7 @@ may_store-from h a (After (Entered slot x (LoadInto n))) i k = refl
 may_store-from h a (After (Entered slot x (StoreWord w))) i k = k
 may_store-from h a (After (Accepted n w)) i k = refl
 
--- a load keeps its order beside stores to its address; another load of it may go before or after
+-- a load keeps its order with stores to its address; two loads of one address may be made in either order
 may_store-unless-held : (h : Shape) (a n : ℕ) (p : Phase) → before_and (has_reference h) p ≡ false
     → holds_back_in a (LoadInto n) p ≡ false → may_store_in (has_store h) a p ≡ false
 unfolding before_and holds_back_in keep_order is_store may_store_in is_reserved occupancy_of
@@ -163,7 +164,7 @@ may_store-unless-held h a n (After (Accepted m w)) i k = refl
 and_true : (f : Bool) → (true && f) ≡ false → f ≡ false
 and_true f h = h
 
--- where an instruction waits in the hopper, each earlier one has come to its store event
+-- if an instruction waits in the hopper, each earlier one has had its store event
 pub turns_past : (es : List Pending) (m : Pending) (slot a : ℕ) (access : Access)
     → m.phase ≡ After (Entered slot a access) → Each (λ e. IsApart e m) es → Each (λ e. has_turn e ≡ false) es
 unfolding is_entered entered_in
@@ -195,7 +196,7 @@ DelaysNone a m = delays_access a m ≡ false
 delaying_none : (ms : List Pending) (a : ℕ) → list_any (delays_access a) ms ≡ false → Each (DelaysNone a) ms
 delaying_none ms a h = each_of_any (delays_access a) (DelaysNone a) (λ m k. k) ms h
 
--- no pending instruction may read or write a word that a peripheral processor may go to
+-- no pending instruction may read or write a word that a peripheral processor may access
 pub untouched_by_access : (ms : List Pending) (a : ℕ) → list_any (delays_access a) ms ≡ false
     → Each (λ m. touches a m ≡ false) ms
 unfolding delays_access has_turn touches board.has_turn reservation_of before_and is_reserved occupancy_of
@@ -217,7 +218,7 @@ no_branches es m apart = each_map (λ y. IsApart y m) IsNoBranch (λ y k. k.no_b
 
 -- ---- an instruction in another phase ----
 
--- nothing of the new one is in the way that was not in the way of the old one
+-- the new instruction conflicts with no instruction with which the old one didn't
 pub record IsLess (m' m : Pending) : Type 0 where
   pub comes_less : (ts : List Reg) → overlap (to_come m) ts ≡ false → overlap (to_come m') ts ≡ false
   pub in_less : (r : Reg) → is_in (to_come m) r ≡ false → is_in (to_come m') r ≡ false
@@ -241,7 +242,7 @@ apart_to_less : (e m' m : Pending) → IsLess m' m → (is_entered m' && has_tur
 apart_to_less e m' m k t a =
     record { disjoint = k.comes_less (to_come e) a.disjoint; in_turn = t; no_branch = a.no_branch }
 
--- an instruction put for one that it is less than
+-- replacing an instruction by one with fewer conflicts
 pub pairs_less : (es : List Pending) (m' m : Pending) (ls : List Pending) → IsLess m' m
     → Each (λ e. (is_entered m' && has_turn e) ≡ false) es → Pairs IsApart (es ++ m ∷ ls)
     → Pairs IsApart (es ++ m' ∷ ls)
@@ -283,7 +284,7 @@ less_accepted m slot a n w e = record {
   branch_less = λ h. refl;
 }
 
--- a reservation of which something is left after its store event has a reference
+-- a reservation with a reference outstanding after its store event has a reference
 left_has_reference : (b : Bounds) (slot : ℕ) (h : Shape) (v : UnitValue) (l : Outstanding) (f : Bool)
     → has_reference h ≡ f → rest_of b slot (reference_for h v) ≡ Some l → f ≡ true
 unfolding relocated outstanding_of
@@ -294,7 +295,7 @@ left_has_reference b slot h v l false e k = none_left (reference_for h v) (no_re
     none_left None i j = cc
     none_left (Some r) i j = cc
 
--- at a store event in turn, the earlier references have come to theirs
+-- at a store event in turn, the earlier references have had theirs
 pub turns_at_store : (b : Bounds) (slot : ℕ) (h : Shape) (v : UnitValue) (l : Outstanding) (es : List Pending)
     → rest_of b slot (reference_for h v) ≡ Some l → (has_reference h && list_any has_turn es) ≡ false
     → Each (λ e. has_turn e ≡ false) es

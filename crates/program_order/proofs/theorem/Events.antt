@@ -1,5 +1,5 @@
--- One event on a list that is split at the instruction that it names, over plain variables: the pending instructions
--- stay apart, and what all of them come to stays.
+-- One event on a list that is split at the instruction of the event, over plain variables: the pending instructions
+-- stay apart, and completing them gives the same state.
 use Rattle.std.proofs.Common.{◌≡◌, ℕ, false, List, [], ◌∷◌, ◌++◌, Option, Some, None, refl, sym, ap, ◌∙◌, get_or}
 use Rattle.std.specs.Prelude.{◌&&◌}
 use Rattle.std.proofs.lemmas.Bool.{and_right}
@@ -39,12 +39,12 @@ use Rattle.sequential.specs.Work.{write_and_jump, reference_for, work_of}
 use Rattle.sequential.specs.declared.state.State.{State}
 use Rattle.unit_ops.specs.declared.UnitValue.{UnitValue}
 
--- the pending instructions stay apart, and complete to the same
+-- the pending instructions stay apart, and completing them gives the same state
 pub record IsKept (b : Bounds) (s c : State) (ms ns : List Pending) : Type 0 where
   pub apart : Pairs IsApart ns
   pub same : complete b c ns ≡ complete b s ms
 
--- an instruction that has not entered has nobody to wait for
+-- an instruction that isn't in the hopper waits for no reference
 not_entered : (es : List Pending) (m : Pending) → is_entered m ≡ false
     → Each (λ e. (is_entered m && has_turn e) ≡ false) es
 not_entered es m h = each_all (λ e. (is_entered m && has_turn e) ≡ false) (λ e. ap (λ f. f && has_turn e) h) es

@@ -1,4 +1,5 @@
--- The headline: the log is what was issued and exchanged, and a fault's run.
+-- The headline: the log records the issues and exchanges, and the fault flag is set by the log's first faulty
+-- instruction.
 use Rattle.std.specs.Prelude.{option_and_then}
 use Rattle.sequential.specs.Position.{after_jump}
 use Rattle.std.proofs.Common.{◌≡◌, ℕ, Bool, true, false, ◌||◌, List, [], ◌∷◌, ◌++◌, Option, Some, None, cond, refl, sym}
@@ -170,7 +171,7 @@ step-fault s h = by_halt s.halt
     by_halt None = do_fetched-fault _ s _ _ h
     by_halt (Some k) = h
 
--- the state that a test lets through is that one
+-- the state that the test returns is the tested state
 let_through : (b : Bool) (s t : State) → cond b (Some s) None ≡ Some t → s ≡ t
 let_through true s t h = cc
 let_through false s t h = cc
@@ -185,7 +186,7 @@ log_step-fault s (ReadAt a) t n h f =
 log_step-fault s (Wrote a w) t n h f =
     ap (λ (y : State). y.fault) (sym (let_through (ltb a (length s.memory)) (store_word s a w) t h)) ∙ f
 
--- once set, it stays through all later steps but an exchange
+-- once set, the fault flag stays set through all later steps but an exchange
 replay-fault : (s : State) (xs : List LogStep) (t : State) → list_any is_exchanged xs ≡ false → replay s xs ≡ Some t
     → s.fault ≡ true → t.fault ≡ true
 unfolding replay
@@ -201,7 +202,7 @@ replay-fault s (x ∷ xs) t n h f =
 
 -- ---- the first instruction that sets the fault ----
 
--- an instruction of a run that starts without fault is the first after which the fault is set
+-- in a run that starts without a fault, some instruction is the first after which the fault flag is set
 pub record FirstFault (s : State) (xs : List LogStep) : Type 0 where
   pub earlier : List LogStep
   pub later : List LogStep
@@ -211,7 +212,7 @@ pub record FirstFault (s : State) (xs : List LogStep) : Type 0 where
   pub always_after : (more : List LogStep) → list_any is_exchanged more ≡ false → (t : State)
       → replay s (earlier ++ Issued ∷ more) ≡ Some t → t.fault ≡ true
 
--- the first step sets it: no exchange and no peripheral access does
+-- the first step sets the fault flag, so it is an instruction: exchanges and peripheral accesses don't set it
 set_at_once : (s u : State) (x : LogStep) (xs : List LogStep) → s.fault ≡ false → is_exchanged x ≡ false
     → do_log_step s x ≡ Some u → u.fault ≡ true → FirstFault s (x ∷ xs)
 unfolding do_log_step is_exchanged store_word replay
@@ -235,7 +236,7 @@ set_at_once s u (Wrote a w) xs f n h g =
     absurd (false≢true (sym f
     ∙ ap (λ (y : State). y.fault) (let_through (ltb a (length s.memory)) (store_word s a w) u h) ∙ g))
 
--- the first step doesn't set it
+-- the first step doesn't set the fault flag
 set_later : (s u : State) (x : LogStep) (xs : List LogStep) → s.fault ≡ false → do_log_step s x ≡ Some u
     → FirstFault u xs → FirstFault s (x ∷ xs)
 unfolding replay
@@ -299,7 +300,7 @@ pub swap-no_fault : (n : ℕ) (s : State) → (swap n s).fault ≡ false
 unfolding swap program_entered
 swap-no_fault n s = refl
 
--- a log up to its last exchange, and its steps since then
+-- a log, split at its last exchange
 record IsSplit (memory : List ℕ) (log : List LogStep) (s : State) : Type 0 where
   before : List LogStep
   start : State
@@ -311,7 +312,7 @@ record IsSplit (memory : List ℕ) (log : List LogStep) (s : State) : Type 0 whe
   no_exchange : list_any is_exchanged run ≡ false
   leads : replay start run ≡ Some s
 
--- one step more: an exchange
+-- one more step, an exchange
 split_exchange : (memory : List ℕ) (log : List LogStep) (s t : State) (n : ℕ) → IsSplit memory log s
     → do_log_step s (Exchanged n) ≡ Some t → IsSplit memory (log ++ Exchanged n ∷ []) t
 unfolding replay do_log_step
@@ -329,7 +330,7 @@ split_exchange memory log s t n p h = record {
   leads = refl;
 }
 
--- an instruction or a peripheral access
+-- one more step, an instruction or a peripheral access
 split_other : (memory : List ℕ) (log : List LogStep) (s t : State) (x : LogStep) → IsSplit memory log s
     → do_log_step s x ≡ Some t → is_exchanged x ≡ false → IsSplit memory (log ++ x ∷ []) t
 split_other memory log s t x p h n = record {
@@ -423,7 +424,7 @@ fault_after w Exchange n h = cc
 fault_after w (PpRead a) n h = h
 fault_after w (PpWrite a v) n h = h
 
--- what an issue is refused for while the fault is set
+-- the refusal of an issue while the fault flag is set
 issue_at_fault : (w : Processor) → w.state.fault ≡ true → allowed w Issue ≡ Some (refusal_at_fault w.state.halt)
 unfolding allowed tests_of issue_tests refusal_of refusal_at_fault
 issue_at_fault w h =
@@ -438,7 +439,7 @@ issue_at_fault w h =
 
 -- ---- no exchange while the fault is set ----
 
--- an allowed event that is no exchange adds peripheral accesses alone to the log while the fault is set
+-- while the fault flag is set, an allowed event other than an exchange adds only peripheral accesses to the log
 accesses_alone : (w : Processor) (r : Option ℕ) (e : Event) → w.state.fault ≡ true → allowed w e ≡ None
     → is_exchange e ≡ false → list_all is_access (made_steps r e) ≡ true
 unfolding made_steps is_exchange is_access
@@ -455,7 +456,7 @@ accesses_alone w r Exchange f h n = cc
 accesses_alone w r (PpRead a) f h n = refl
 accesses_alone w r (PpWrite a v) f h n = refl
 
--- the log gains nothing but peripheral accesses, and the fault is set
+-- the log gains only peripheral accesses, and the fault flag stays set
 abbrev StaysFaulted : Processor → Processor → Type 0
 StaysFaulted w v = GainsAccesses w.log v.log × (v.state.fault ≡ true)
 
@@ -514,7 +515,7 @@ boot_memory_from_boot : (memory : List ℕ) (budget : ℕ) (events : List Event)
 unfolding boot_processor
 boot_memory_from_boot memory budget events given = run_boot (boot_processor memory budget) events given
 
--- whatever was reached, the pending instructions come to the replay of what was logged
+-- in every reached machine, completing the pending instructions gives the replay of the log
 run_from_boot : (memory : List ℕ) (budget : ℕ) (events : List Event) (given : List (Result Done Refusal))
     (w : Processor) → IsAnswered (boot_processor memory budget) events given
     → w ≡ settled_all (boot_processor memory budget) events given
@@ -548,13 +549,13 @@ faulted_run log memory t f p =
       always_after = k.always_after;
     }
 
--- a state with the fault lies on such a run whenever it is the replay of the log: nothing else need be known of it
+-- every faulted state that is a replay of the log is on such a run
 pub replay_faulted : (log : List LogStep) (memory : List ℕ) (t : State) → replay (boot memory) log ≡ Some t
     → t.fault ≡ true → IsFaultedRun log memory t
 replay_faulted log memory t h f =
     faulted_run log memory t f (split_all memory [] log (boot memory) t (split_boot memory) h)
 
--- the word that is read of a machine is that of the state to which its pending instructions come
+-- the word that a machine's read returns is the word of the completed state
 read_done : (w : Processor) (a : ℕ) → allowed w (PpRead a) ≡ None
     → done_by w (PpRead a) ≡ Word (get_or (completed w).memory a 0)
 unfolding done_by

@@ -48,7 +48,7 @@ unfolding word_seen
 word_seen-same b s ms p (Some w) nb h = refl
 word_seen-same b s ms p None nb h = word_at-same b s ms (absolute b p) nb h
 
--- where the fetch need not wait, all pending instructions leave the fetched word as it is
+-- if the fetch needn't wait, no pending instruction changes the fetched word
 pub fetch-same : (b : Bounds) (s : State) (ms : List Pending) (position : ProgramPosition) → list_any is_branch ms
     ≡ false
     → fetch_waits b position ms ≡ false → fetch b (complete b s ms).memory position ≡ fetch b s.memory position
@@ -65,7 +65,7 @@ step_from s b position h e f =
     ∙ ap (λ d. do_fetched d s s.position.p (fetch d s.memory s.position)) e
     ∙ ap (λ k. do_fetched b s k.p (fetch b s.memory k)) f
 
--- the completed state fetches what the present one does
+-- the completed state fetches the same instruction as the present state
 pub step-complete : (s : State) (ms : List Pending) → s.halt ≡ None → list_any is_branch ms ≡ false
     → fetch_waits (bounds_of s) s.position ms ≡ false
     → step (complete (bounds_of s) s ms)
@@ -94,7 +94,7 @@ issue_taking b s ms position m e nb =
     ∙ ap (run_phase b _ m.instr m.at) e
     ∙ ap (λ x. do_instruction b x m.instr m.at) (complete-move b s ms position (each_no_branch ms nb))
 
--- a new instruction is apart from those before it
+-- a new instruction is apart from the earlier ones
 pub new_apart : (ms : List Pending) (m : Pending) → m.phase ≡ Before Unread → list_any is_branch ms ≡ false
     → list_any (awaited ms) (results (shape_of m.instr)) ≡ false → Pairs IsApart ms → Pairs IsApart (ms ++ m ∷ [])
 unfolding comes board.comes results_to_come overlap is_entered entered_in
@@ -128,7 +128,7 @@ replay-push s (y ∷ xs) x = after (do_log_step s y) (λ t. replay-push t xs x)
     after None ih = refl
     after (Some t) ih = ih t
 
--- one more step of a replay that came to a state
+-- one more step after a replay
 pub replay_more : (s t : State) (xs : List LogStep) (x : LogStep) → replay s xs ≡ Some t
     → replay s (xs ++ x ∷ []) ≡ do_log_step t x
 replay_more s t xs x h = replay-push s xs x ∙ ap (λ o. option_and_then (λ u. do_log_step u x) o) h

@@ -1,4 +1,4 @@
--- What each event does to one pending instruction, over plain variables.
+-- The effect of each event on one pending instruction, over plain variables.
 use Rattle.std.proofs.Common.{◌≡◌, ℕ, List, [], ◌∷◌, ◌++◌, Option, Some, None, refl, sym, ap, ◌∙◌, get_or}
 use Rattle.program_order.proofs.effects.Effects.{do_parts, do_work-is, do_option}
 use Rattle.program_order.proofs.effects.Completing.{complete-append}
@@ -26,7 +26,7 @@ use Rattle.sequential.specs.declared.work.ProgramReference.{ProgramReference}
 use Rattle.unit_ops.specs.Values.{value_of}
 use Rattle.unit_ops.specs.declared.UnitValue.{UnitValue}
 
--- others put for one of the list
+-- replacing one instruction of the list by others
 pub complete-put_back : (b : Bounds) (s c : State) (es ns : List Pending) (m : Pending) (ls : List Pending)
     → complete b (complete b c es) ns ≡ finish_effects b (complete b s es) m
     → complete b c (es ++ (ns ++ ls)) ≡ complete b s (es ++ m ∷ ls)

@@ -254,7 +254,7 @@ exchange_at w (Some n) e f r = (
 within : (a n : ℕ) → not (ltb a n) ≡ false → ltb a n ≡ true
 within a n h = not-false _ h
 
--- the completed memory is of the same size
+-- the completed memory has the same size
 completed_within : (w : Processor) (a : ℕ) → not (ltb a (length w.state.memory)) ≡ false
     → ltb a (length (completed w).memory) ≡ true
 unfolding completed bounds_of
@@ -262,7 +262,7 @@ completed_within w a h =
     ap (λ (b : Bounds). ltb a b.size) (complete-bounds (bounds_of w.state) w.state w.pending)
     ∙ within a (length w.state.memory) h
 
--- a word that is written is written after all that is still to come as well as before it
+-- a write gives the same state before and after all pending instructions
 completed_write : (w : Processor) (a v : ℕ) → list_any (delays_access a) w.pending ≡ false
     → completed (after_pp_write w a v) ≡ store_word (completed w) a v
 unfolding completed after_pp_write
@@ -270,7 +270,7 @@ completed_write w a v h =
     ap (λ b. complete b (store_word w.state a v) w.pending) (store_word-bounds w.state a v)
     ∙ complete-store_word (bounds_of w.state) w.state w.pending a v (untouched_by_access w.pending a h)
 
--- a word that is read is that of the completed memory
+-- a word that is read is the word of the completed memory
 pub completed_read : (w : Processor) (a : ℕ) → allowed w (PpRead a) ≡ None
     → word_read w a ≡ get_or (completed w).memory a 0
 unfolding allowed tests_of access_tests completed word_read
@@ -320,7 +320,7 @@ not_refused : (d done : Done) (r : Refusal) → Ok done ≡ answer_by d (Some r)
 unfolding answer_by
 not_refused d done r k = cc
 
--- an answer of Ok is given only where no test fails
+-- an answer `Ok` is given only if no test fails
 pub made_allowed : (w : Processor) (e : Event) (done : Done) → IsAnswer w e (Ok done) → allowed w e ≡ None
 unfolding answer_of
 made_allowed w e done (inl h) = by_refusal (allowed w e) refl h

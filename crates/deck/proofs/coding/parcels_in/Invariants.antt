@@ -2,7 +2,7 @@ use Rattle.std.proofs.Common.{◌≡◌, ◌<◌, ◌≤◌, ◌+◌, ◌^◌, l
 use Rattle.deck.specs.Code.{items_of, put_before, parcels_in}
 use Rattle.deck.proofs.coding.parcels_in.Given as goal
 
--- the parcels of all texts are those so far and those of the texts that are left
+-- the parcels of all texts are the parcels so far and the parcels of the texts that are left
 abbrev pub invariant-loop-after : goal.invariant-loop-after
 invariant-loop-after l =
     record {

@@ -1,7 +1,6 @@
 use Rattle.std.proofs.Common.{None, Err, arith, refl}
 use Rattle.std.proofs.lemmas.Result.{err_from_is_err_and}
-use Rattle.deck.proofs.DeckLines.{numbered, read_nothing, line_refused, first_fault, first_begun, first_unmade}
-use Rattle.deck.proofs.DeckLines.{made_of_reading}
+use Rattle.deck.proofs.DeckLines.{numbered, read_nothing, line_refused, first_fault}
 use Rattle.deck.proofs.Unread.{line_cut, line_taken}
 use Rattle.deck.proofs.reading.first_draft.Goals as goal
 

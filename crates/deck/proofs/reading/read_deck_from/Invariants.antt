@@ -4,7 +4,7 @@ use Rattle.device_text.specs.Line.{lines_of}
 use Rattle.deck.specs.Deck.{deck, read_from}
 use Rattle.deck.proofs.reading.read_deck_from.Given as goal
 
--- reading all is reading on from here
+-- reading the whole deck equals reading on from this line
 abbrev pub invariant-loop-number : goal.invariant-loop-number
 invariant-loop-number g l =
     record {

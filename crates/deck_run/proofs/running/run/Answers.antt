@@ -31,14 +31,14 @@ booted_rests w memory budget h = record {
   halted = ap (λ (x : Processor). is_some x.state.halt) h;
 }
 
--- a log that begins with none and an exchange, begins with that exchange
+-- if a log begins with no steps and an exchange, it begins with that exchange
 begins_with : (log before : List LogStep) (n start : ℕ) → before ≡ [] → n ≡ start
     → (rest : List LogStep) × (log ≡ (before ++ Exchanged n ∷ []) ++ rest)
     → (more : List LogStep) × (log ≡ Exchanged start ∷ more)
 begins_with log before n start b e h =
     (h.0, h.1 ∙ ap (λ l. (l ++ Exchanged n ∷ []) ++ h.0) b ∙ ap (λ k. Exchanged k ∷ h.0) e)
 
--- the requests of the orders are the deck's
+-- the requests of the orders are the requests of the deck
 fulfilled_as : (start other : ℕ) (after asks : List (ℕ × ℕ)) (free spare : List ℕ) (in_mid_word : Bool)
     (log : List LogStep) → start ≡ other → after ≡ asks → free ≡ spare
     → IsFulfilled start after free in_mid_word log → IsFulfilled other asks spare in_mid_word log
@@ -47,7 +47,7 @@ fulfilled_as start other after asks free spare in_mid_word log s a f h =
     (subst (λ l. IsFulfilled start l spare in_mid_word log) a
     (subst (λ l. IsFulfilled start after l in_mid_word log) f h))
 
--- the snapshot's boot memory is the machine's, which is the deck's, and its budget is the machine's too
+-- the snapshot's boot memory is the machine's, so it is the deck's; its budget is the machine's too
 pub returns-in-Ok-run_threads-clause-ran : goal.returns-in-Ok-run_threads-clause-ran
 returns-in-Ok-run_threads-clause-ran g c =
     let ended = c.in-Ok-run_threads.ensures in

@@ -3,7 +3,7 @@ use Rattle.device_text.specs.Device.{Moves}
 use Rattle.device_text.specs.Line.{IsText}
 use Rattle.device_text.proofs.line.read_line.Given as goal
 
--- the bytes of the line so far were taken, and none of them is a line end
+-- the bytes of the line so far were read, and none of them is a line end
 abbrev pub invariant-loop : goal.invariant-loop
 invariant-loop g l =
     record {

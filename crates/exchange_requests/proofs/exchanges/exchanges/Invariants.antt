@@ -3,7 +3,7 @@ use Rattle.sequential.specs.Log.{issued, steps_of}
 use Rattle.exchange_requests.specs.Fulfilled.{exchanges_after}
 use Rattle.exchange_requests.proofs.exchanges.exchanges.Given as goal
 
--- the exchanges and the instructions of the entries so far
+-- the exchanges and the instruction count of the entries so far
 abbrev pub invariant-loop-entry : goal.invariant-loop-entry
 invariant-loop-entry l = record {
   made : l.made.items ≡ exchanges_after 0 (steps_of (take l.entry-index l.entries));

@@ -3,7 +3,7 @@ use Rattle.exchange_requests.specs.Fulfilled.{fulfils}
 use Rattle.exchange_requests.specs.inner.Judging.{AreWithin}
 use Rattle.exchange_requests.proofs.fulfilling.are_given.Given as goal
 
--- what is left decides
+-- the remaining requests decide
 abbrev pub invariant-loop-made : goal.invariant-loop-made
 invariant-loop-made l = record {
   same : fulfils l.in_mid_word l.total l.last l.asks l.free l.left

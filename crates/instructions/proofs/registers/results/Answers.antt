@@ -1,4 +1,4 @@
--- What is set at the store event, and then what a load sets at its return.
+-- The registers set at the store event, followed by the register that a load sets at its return.
 use Rattle.std.proofs.Common.{rules, ◌≡◌, ◌∙◌, ◌++◌, ◌∷◌, [], ap, sym}
 use Rattle.std.specs.Prelude.{option_to_list}
 use Rattle.instructions.specs.Shape.{shape_of, loads_of}

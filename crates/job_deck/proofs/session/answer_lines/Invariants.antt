@@ -3,7 +3,7 @@ use Rattle.device_text.specs.Device.{Moves}
 use Rattle.job_deck.proofs.sessions.Sessions.{Has}
 use Rattle.job_deck.proofs.session.answer_lines.Given as goal
 
--- the session has come to this line and this machine, and its answers are handed on
+-- the session has reached this line and this machine, and its answers were written
 abbrev pub invariant-loop-number : goal.invariant-loop-number
 invariant-loop-number g l =
     record {

@@ -6,7 +6,7 @@ use Rattle.log_text.proofs.FollowingLines.{ReadsOn}
 use Rattle.log_text.proofs.LogReading.{still_to_come}
 use Rattle.log_text.proofs.following_log.read_entries_from.Given as goal
 
--- the bytes of the line before the field in the buffer were read as entries
+-- the bytes of the line before the buffered field were read as entries
 abbrev pub invariant-loop-log : goal.invariant-loop-log
 invariant-loop-log g l =
     record {
@@ -18,6 +18,6 @@ invariant-loop-log g l =
       failures : g.I.Input.has_failed l.input ≡ g.I.Input.has_failed l.fn.input;
     }
 
--- each entry takes from what may still come
+-- each entry reduces the allowance
 abbrev pub decreases-loop-log : goal.decreases-loop-log
 decreases-loop-log g l = still_to_come l.left

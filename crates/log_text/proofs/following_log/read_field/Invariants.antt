@@ -3,7 +3,7 @@ use Rattle.device_text.specs.Device.{Moves}
 use Rattle.log_text.specs.inner.LogLineParts.{IsInField}
 use Rattle.log_text.proofs.following_log.read_field.Given as goal
 
--- the bytes of the field so far were taken, and none of them ends a field
+-- the bytes of the field so far were read, and none of them ends a field
 abbrev pub invariant-loop : goal.invariant-loop
 invariant-loop g l =
     record {

@@ -4,7 +4,7 @@ use Rattle.device_text.specs.Text.{fields_of}
 use Rattle.log_text.specs.LogText.{whole_allowance, put_steps, steps_in}
 use Rattle.log_text.proofs.logs.read_entries.Given as goal
 
--- the steps of all fields are those so far and those of the fields that are left
+-- the steps of all fields are the steps so far and the steps of the remaining fields
 abbrev pub invariant-loop-log : goal.invariant-loop-log
 invariant-loop-log l =
     record {

@@ -12,7 +12,7 @@ use Rattle.program_order.specs.SnapshotView.{Snapped}
 use Rattle.program_order.specs.Processor.{Processor}
 use Rattle.machine_tests.proofs.reached_tests.shown.Goals as goal
 
--- what a taken snapshot shows of a machine whose boot memory and log are known
+-- the contents of a snapshot, for a machine whose boot memory and log are known
 taken : (r : Result Snapped Refusal) (w : Processor) (memory : List ℕ) (more : List Event)
     (answers : List (Result Done Refusal)) (Q : Refusal → Type 0)
     → MatchResult r (λ s. (is_pending w.pending ≡ false) × (s.state ≡ w.state) × (s.log ≡ w.log)

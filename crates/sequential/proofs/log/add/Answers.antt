@@ -9,14 +9,14 @@ use Rattle.sequential.proofs.log.add.Goals as goal
 use Rattle.sequential.proofs.log.add.Goals.{in-Some+in_default-last, in_default, After-push_reserved}
 use Rattle.sequential.proofs.log.add.Goals.{After-len-position}
 
--- the position that is written has the last count
+-- the written position has the last count
 at_last : (c : After-len-position) → slice_get c.args.entries.now.items (c.len-position.result - 1)
     ≡ Some (Count c.in-Issued.count)
 at_last c = ap (λ n. slice_get c.args.entries.now.items (n - 1)) (c.len-position.ensures ∙ sym c.deref.ensures.len)
     ∙ ap (λ l. slice_get l (length c.deref.result.now - 1)) (sym c.deref.ensures.value)
     ∙ sym c.in-Some.ensures.value ∙ ap Some c.in-Issued.is
 
--- and it is the last one
+-- the written position is the last one
 is_last : (c : After-len-position) → length c.args.entries.now.items ≡ suc (c.len-position.result - 1)
 is_last c =
     let e = ap length c.deref.ensures.value in
@@ -60,7 +60,7 @@ push_reserved-requires c = c.requires.room
       | in_default w ↦ none_last c.deref.result.now (sym w.in_default.ensures.value)
     ])
 
--- no count is the last entry
+-- the last entry is no count
 closed : (c : After-push_reserved) → ends_open c.args.entries.now.items ≡ false
 closed c = ap ends_open (sym c.deref.ensures.value)
     ∙ elim c.match-last.branch [

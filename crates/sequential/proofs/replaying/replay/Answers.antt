@@ -5,19 +5,19 @@ use Rattle.instructions.specs.declared.refusal.Refusal.{Refusal}
 use Rattle.sequential.proofs.Runs.{replay_begun, replay_more, refused_replay, refused_at}
 use Rattle.sequential.proofs.replaying.replay.Goals as goal
 
--- what a refusal has, for another reason
+-- a refusal has a second property that follows from its first
 refused_as : {T : Type 0} (r : Result T Refusal) (P Q : Refusal → Type 0) → ((k : Refusal) → P k → Q k) → IfErr r P
     → IfErr r Q
 refused_as (Ok x) P Q f h = h
 refused_as (Err k) P Q f h = f k h
 
--- the answer of a refused entry
+-- the answer for a refused entry
 refused_answer : {T : Type 0} (r : Result T Refusal) (P : T → Type 0) (Q : Refusal → Type 0) → is_err r ≡ true
     → IfErr r Q → MatchResult r P Q
 refused_answer (Ok x) P Q e h = cc
 refused_answer (Err k) P Q e h = h
 
--- what is so of an answer that is no refusal
+-- a property of every answer that isn't a refusal
 answered : {T : Type 0} (r : Result T Refusal) (P : Type 0) → is_err r ≡ false → OnOk r P → P
 answered (Ok x) P e h = h
 answered (Err k) P e h = cc

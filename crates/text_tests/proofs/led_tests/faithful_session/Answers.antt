@@ -17,7 +17,7 @@ use Rattle.job_deck.specs.SessionResult.{Performs, RunsSessionFromBoot}
 use Rattle.device_text.proofs.Moving.{Moves-weaker}
 use Rattle.text_tests.proofs.led_tests.faithful_session.Goals as goal
 
--- what is said of a session that ran to its last line
+-- the theorem for a session that ran to its last line
 abbrev IsFaithfulSession : Deck → ℕ → List ℕ → Option (List ℕ) → Option (List ℕ) → Type 0
 IsFaithfulSession whole n after old new =
     (events : List Event) × ((answers : List (Result Done Refusal))
@@ -25,7 +25,7 @@ IsFaithfulSession whole n after old new =
     × (Says (n + 1) events (lines_of after) left
     × (Appends old new (flat_map answer_line answers ++ text) × IsFaithful whole.image.memory events answers w))))))
 
--- the theorem of what is reached from boot
+-- the theorem about machines reached from boot
 abbrev Law : Type 0
 Law = (memory : List ℕ) → (budget : ℕ) → (events : List Event) → (answers : List (Result Done Refusal))
     → (w : Processor) → IsReached memory budget events answers w → IsFaithful memory events answers w

@@ -5,7 +5,7 @@ use Rattle.unit_workers.specs.declared.threaded_run.Ended.{Ended}
 use Rattle.unit_workers.proofs.Onward.{at_first, ok_through}
 use Rattle.unit_workers.proofs.threaded_run.run_from_first.Goals as goal
 
--- what is split is what was seen first
+-- the passes are split off the first knowledge
 pub returns : goal.returns
 returns g c = record {
   onward = ok_through (λ (e : Ended). e.snapshot) c.args.seen c.split.new.self c.run_lanes-ended.result

@@ -6,7 +6,7 @@ use Rattle.unit_workers.proofs.Onward.{at_first, ok_ending}
 use Rattle.unit_workers.proofs.threaded_run.run_in.Goals.{then-are_started, else-are_started}
 use Rattle.unit_workers.proofs.threaded_run.run_in.Goals as goal
 
--- the last snapshot goes on from what was seen by conducting, if there was any
+-- the last snapshot extends the knowledge gained by conducting, if there is any
 pub returns : goal.returns
 returns g c =
     let on : GoesOnFrom c.args.tasks.seen c.if-are_started.seen =

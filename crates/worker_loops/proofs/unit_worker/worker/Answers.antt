@@ -26,7 +26,7 @@ loop-preserved-then-is_stored g c =
           c.loop.stored c.loop.strange c.one_more-stored.result c.loop.strange i.notes got (omega (arith, one));
     }
 
--- the note is strange, and its seat is as it was
+-- the note is strange, and its seat is unchanged
 pub loop-preserved-else-is_stored : goal.loop-preserved-else-is_stored
 loop-preserved-else-is_stored g c =
     let i = c.loop.invariant in
@@ -42,7 +42,7 @@ loop-preserved-else-is_stored g c =
           c.loop.stored c.loop.strange c.loop.stored c.one_more-strange.result i.notes got (omega (arith, one));
     }
 
--- what closes the lane is no note
+-- the item that closes the lane is no note
 pub returns-in-Some-Closed-clause-notes : goal.returns-in-Some-Closed-clause-notes
 returns-in-Some-Closed-clause-notes g c =
     let i = c.loop.invariant in

@@ -2,7 +2,7 @@ use Rattle.std.proofs.Common.{◌≡◌, ◌+◌}
 use Rattle.worker_loops.proofs.NotesTaken.{Counted}
 use Rattle.worker_loops.proofs.unit_worker.worker.Given as goal
 
--- the items taken so far, and what became of the notes among them
+-- the items taken so far, and whether each note was stored or strange
 abbrev pub invariant-loop : goal.invariant-loop
 invariant-loop g l = record {
   lane : l.from.id ≡ l.lane.id;

@@ -2,7 +2,7 @@ use Rattle.std.proofs.Common.{length, take, ◌-◌, ◌≡◌, ◌≤◌, true}
 use Rattle.std.specs.Io.KnownBytes.{Appends}
 use Rattle.device_text.proofs.output.CheckedWriterOutput.put.Given as goal
 
--- the writer took the bytes so far
+-- the writer has taken the bytes so far
 abbrev pub invariant-loop-written : goal.invariant-loop-written
 invariant-loop-written g l =
     record {

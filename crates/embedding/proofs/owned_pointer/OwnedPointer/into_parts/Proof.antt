@@ -1,4 +1,4 @@
--- `into_parts` moves two fields and casts the pointer. The pointer owns a machine there, as its `requires` says.
+-- `into_parts` moves two fields and casts the pointer. By its `requires`, the pointer owns a machine there.
 use mathlib.Core.Path.{refl, sym, subst}
 use Rattle.std.specs.Prelude.{◌≡◌, Option, Some, is_some, true}
 use mathlib.Core.List.{List, [], ◌∷◌, ◌++◌}

@@ -1,4 +1,4 @@
--- `null` makes a pointer to nothing, which owns nothing.
+-- `null` makes a null pointer, which owns nothing.
 use mathlib.Core.Path.{refl, sym, subst}
 use Rattle.std.specs.Prelude.{None}
 use Rattle.std.proofs.Common.{lit<}

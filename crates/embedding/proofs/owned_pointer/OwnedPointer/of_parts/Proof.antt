@@ -1,4 +1,4 @@
--- `of_parts` moves two fields and casts the pointer, and what they own goes with them.
+-- `of_parts` moves two fields and casts the pointer, together with what the fields own.
 use mathlib.Core.Path.{refl, sym, subst}
 use Rattle.std.specs.Prelude.{Some}
 use mathlib.Core.List.{List, [], ◌∷◌, ◌++◌}

@@ -1,4 +1,4 @@
--- A reference is looked for and judged.
+-- Finding the reference in a place, and judging it.
 use Rattle.std.proofs.Common.{◌≡◌, rules, tests, true, false, sym, ap, ◌∙◌, get_or, take}
 use Rattle.std.specs.Prelude.{Some}
 use Rattle.std.specs.List.{list_any, position}

@@ -1,4 +1,4 @@
--- A bank that is busy is freed, another is refused.
+-- A busy bank is freed; for any other bank the call is refused.
 use Rattle.std.proofs.Common.{Bool, sym, ap, ◌∙◌, cond}
 use Rattle.std.specs.Prelude.{Result, Ok, Err}
 use Rattle.instructions.specs.declared.refusal.Refusal.{Refusal}

@@ -1,4 +1,4 @@
--- A reference enters: it takes the lowest-numbered free place, and is the last of those that wait.
+-- An entering reference takes the lowest-numbered free place and becomes the last of the waiting references.
 use Rattle.std.proofs.Common.{◌≡◌, true, false, rules, tests, sym, ap, ◌∙◌, subst, arith}
 use Rattle.std.proofs.lemmas.Iterator.{first_from_Range}
 use Rattle.hopper.specs.Queue.{Queue, is_taken, place_for, enter_answer}
@@ -8,7 +8,7 @@ use Rattle.hopper.proofs.Standing.{room_for_one, found_is}
 use Rattle.hopper.proofs.hopper.Hopper.enter.Goals as goal
 use Rattle.hopper.proofs.hopper.Hopper.enter.Goals.{After-find}
 
--- the place that is found
+-- the place that the search finds
 found : (c : After-find) → c.find.result ≡ place_for c.self.inside.entered.items
 unfolding place_for
 found c = found_is (is_taken c.as_slice-entered.result.now) c.find.result

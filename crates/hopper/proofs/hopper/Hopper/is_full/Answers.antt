@@ -1,4 +1,4 @@
--- Four wait where each place is taken.
+-- Four references wait exactly if each place is taken.
 use Rattle.std.proofs.Common.{sym, ap, ◌∙◌}
 use Rattle.std.specs.Prelude.{is_none}
 use Rattle.hopper.specs.Queue.{Queue, place_for}

@@ -14,7 +14,7 @@ use Rattle.machine.proofs.making.Making.{err_answer, ok_answer, issue_judged, is
 use Rattle.machine.proofs.making.Making.{flight, issued_halting, issued_passing}
 use Rattle.machine.proofs.processor.Machine.answer_to_issue.Goals as goal
 
--- the reservation of what was fetched is that of the issue
+-- the note of the fetched instruction is the note of the issue
 noted : (w : Processor) (g : Fetched) (given : Option Note)
     → g ≡ fetch (bounds_of w.state) w.state.memory w.state.position → given ≡ note_by w g
     → Issued given ≡ done_by w Issue

@@ -14,7 +14,7 @@ use Rattle.sequential.specs.declared.state.State.{State}
 use Rattle.machine.proofs.processor.Machine.store_result.Goals as goal
 use Rattle.machine.proofs.processor.Machine.store_result.Goals.{After-leave}
 
--- the memory is as it was, and so is what was saved of it
+-- the memory is unchanged, and so are its saved words
 boot_same : (c : After-leave)
     → with_flight (record (the_view c.self.inside) {
       state = c.write_and_jump.new.self;

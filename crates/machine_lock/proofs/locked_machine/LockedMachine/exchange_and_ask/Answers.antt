@@ -6,7 +6,7 @@ use Rattle.machine_lock.specs.Held.{Kept, made_or_refused}
 use Rattle.machine_lock.proofs.Laws.{quiet_settled, same_seen}
 use Rattle.machine_lock.proofs.locked_machine.LockedMachine.exchange_and_ask.Goals as goal
 
--- the request teaches nothing, since the exchange was the last step of the log
+-- the request adds nothing to the caller's knowledge, since the exchange was the last step of the log
 pub returns-in-Some-clause-seen : goal.returns-in-Some-clause-seen
 returns-in-Some-clause-seen g c =
     let e = c.in_ok-exchange.ensures.seen in

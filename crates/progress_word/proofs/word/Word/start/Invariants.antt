@@ -4,7 +4,7 @@ use Rattle.progress_word.specs.CallerKnowledge.{booted_by}
 use Rattle.progress_word.specs.inner.Rules.{history, keeper, caller}
 use Rattle.progress_word.proofs.word.Word.start.Given as goal
 
--- what the machine was booted with
+-- the values that the machine was booted with
 abbrev pub ghosts-begin : goal.ghosts-begin
 ghosts-begin g a = record { booted = booted_by a.machine.now }
 

@@ -1,4 +1,4 @@
-use Rattle.std.proofs.Common.{◌∙◌, ◌*◌, ap, refl, List, ℕ, None, Some, arith}
+use Rattle.std.proofs.Common.{◌∙◌, ◌*◌, ap, refl, List, ℕ, Some, arith}
 use Rattle.relocation.specs.Relocation.{overwritten}
 use Rattle.relocation.proofs.Saving.{page_within, size_of, read_start}
 use Rattle.relocation.proofs.Restoring.{IsPageRestored, page_unsaved, page_words, page_fits_back, page_back}
@@ -9,22 +9,13 @@ index-requires c = page_within c.self.inside.starts.items c.self.inside.words.it
     c.args.self.now c.self.invariant c.self.view_is c.requires.page c.self.inside.starts.ok.0
 
 pub returns-in_default-clause-page : goal.returns-in_default-clause-page
-returns-in_default-clause-page c =
-    page_unsaved c.self.inside.starts.items c.self.inside.words.items c.args.before.now c.self.inside.size c.args.page
-    c.args.self.now c.self.view_is
-    (read_start c.self.inside.starts.items c.args.page c.index.result.now None
-    (page_within c.self.inside.starts.items c.self.inside.words.items _ c.self.inside.size c.args.page _
-    c.args.self.now c.self.invariant c.self.view_is c.requires.page refl) c.index.ensures c.in_default.is)
+returns-in_default-clause-page c = grind (arith, page_unsaved, read_start, page_within)
 
 pub overflow_mul-from : goal.overflow_mul-from
-overflow_mul-from c = let s =
-    size_of c.self.inside.starts.items c.self.inside.words.items c.self.inside.size c.args.self.now c.self.view_is
-    in omega (arith, s, c.requires.page, c.self.invariant.limit)
+overflow_mul-from c = grind (arith, size_of)
 
 pub overflow_add-from : goal.overflow_add-from
-overflow_add-from c = let s =
-    size_of c.self.inside.starts.items c.self.inside.words.items c.self.inside.size c.args.self.now c.self.view_is
-    in omega (arith, s, c.requires.page, c.self.invariant.limit)
+overflow_add-from c = grind (arith, size_of)
 
 pub overflow_sub-end : goal.overflow_sub-end
 overflow_sub-end c = let s = size_of c.self.inside.starts.items c.self.inside.words.items c.self.inside.size

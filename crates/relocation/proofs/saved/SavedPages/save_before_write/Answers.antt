@@ -1,4 +1,5 @@
-use Rattle.std.proofs.Common.{◌≡◌, ◌<◌, ◌*◌, ◌∙◌, sym, ap, length, Option, None, ℕ, get_or, refl, arith}
+use Rattle.std.proofs.lemmas.Grind.{common_steps}
+use Rattle.std.proofs.Common.{◌≡◌, ◌<◌, ◌*◌, ◌∙◌, sym, ap, length, Option, None, ℕ, get_or, refl, arith, rules}
 use Rattle.std.specs.Prelude.{is_some}
 use Rattle.relocation.proofs.Saving.{length-saved_words, none_if, page_fits, page_made, page_stays}
 use Rattle.relocation.proofs.Saving.{others_stay, page_there, saved_to_next, start_of}
@@ -6,34 +7,15 @@ use Rattle.relocation.proofs.saved.SavedPages.save_before_write.Goals as goal
 use Rattle.relocation.proofs.saved.SavedPages.save_before_write.Goals.{After-index}
 
 pub index-requires : goal.index-requires
-index-requires c =
-    let s = length-saved_words c.loop-page.self-inside.starts.items c.loop-page.self-inside.words.items
-    c.loop-page.self-inside.size in
-    omega (
-      arith,
-      s,
-      c.loop-page.invariant.1.len,
-      c.loop-page.invariant.0.pages,
-      c.requires.within,
-      c.loop-page-test.true,
-      c.if-count-eq0.false,
-      c.loop-page.self-inside.starts.ok.0,
-    )
+index-requires c = grind (arith, length-saved_words)
 
--- the page begins in the memory
+-- the page begins within the memory
 begins : (c : After-index) → c.loop-page.page * 256 < c.loop-page.self-inside.size
-begins c =
-    let s = length-saved_words c.loop-page.self-inside.starts.items c.loop-page.self-inside.words.items
-    c.loop-page.self-inside.size in
-    omega (arith, s, c.loop-page.invariant.1.len, c.requires.within, c.loop-page-test.true, c.if-count-eq0.false)
+begins c = grind (arith, length-saved_words)
 
--- what was read is where its words begin
+-- the value read is the start of the page's words
 start : (c : After-index) → get_or c.loop-page.self-inside.starts.items c.loop-page.page None ≡ c.index.result.now
-start c =
-    let s = length-saved_words c.loop-page.self-inside.starts.items c.loop-page.self-inside.words.items
-    c.loop-page.self-inside.size in
-    start_of c.loop-page.self-inside.starts.items c.loop-page.self-inside.words.items _ c.loop-page.self-inside.size
-    c.loop-page.page _ c.index.result.now c.loop-page.invariant.0 refl (omega (arith, s, begins c)) c.index.ensures
+start c = grind (arith, common_steps, length-saved_words, start_of, begins, c.loop-page.invariant.0, c.index.ensures)
 
 pub loop-page-preserved-then-is_some : goal.loop-page-preserved-then-is_some
 loop-page-preserved-then-is_some c =
@@ -51,15 +33,10 @@ append-requires-clause-range c =
     let b = begins ((goal.at.append-requires-clause-range c).After-index) in omega (arith, b, c.min-end.ensures)
 
 pub append-requires-clause-within : goal.append-requires-clause-within
-append-requires-clause-within c =
-    let s = length-saved_words c.loop-page.self-inside.starts.items c.loop-page.self-inside.words.items
-    c.loop-page.self-inside.size in
-    omega (arith, s, c.loop-page.invariant.1.len, c.requires.size, c.min-end.ensures)
+append-requires-clause-within c = grind (arith, length-saved_words)
 
 pub index_mut-requires : goal.index_mut-requires
-index_mut-requires c =
-    let b = begins ((goal.at.index_mut-requires c).After-index) in
-    omega (arith, b, c.loop-page.invariant.0.pages, c.loop-page.self-inside.starts.ok.0)
+index_mut-requires c = search (rules, begins, c.loop-page.invariant.0.pages)
 
 pub loop-page-preserved : goal.loop-page-preserved
 loop-page-preserved c =

@@ -1,4 +1,4 @@
--- A turn that makes the exchange: refused for its range, or one turn of the run.
+-- A turn with an exchange: refused for its range, or one turn of the run.
 use Rattle.std.proofs.Common.{rules, refl}
 use Rattle.std.proofs.lemmas.Result.{err_from_is_err_and}
 use Rattle.sequential_run.proofs.Going.{exchange_refused, exchange_goes, exchange_keeps}
