@@ -1,4 +1,4 @@
--- What the board and the hopper answer of that list.
+-- The answers of board and hopper about that list.
 pub mod Boarding
 pub mod Beside
 pub mod Referring

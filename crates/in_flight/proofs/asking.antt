@@ -1,4 +1,4 @@
--- What an event asks of one pending instruction, and that each has a slot of its own.
+-- An event's tests of one pending instruction, and the slot of each instruction.
 pub mod PendingReservations
 pub mod Finding
 pub mod Phases

@@ -1,4 +1,5 @@
--- The list that the slots stand for.
+-- The list that the slots represent.
+pub mod Asked
 pub mod Moving
 pub mod Oldest
 pub mod Listing

@@ -22,7 +22,7 @@ ghost use Rattle.instructions.specs.Finding.{replaced, Found, seek};
 ghost use Rattle.in_flight.specs.inner.OwnSlots.{HasOwnSlots};
 ghost use Rattle.in_flight.specs.Apart.{IsApart};
 
-use crate::slots::Slots;
+use crate::slots::{SLOTS, Slots};
 use crate::{Arrival, Located, Outstanding, Pending, Phase, Relocated, Stage};
 use arrayvec::ArrayVec;
 use hopper::{Hopper, Reference};
@@ -141,7 +141,7 @@ impl InFlight {
     }
 
     /// The instructions in flight, in issue order.
-    pub fn pending(&self) -> ArrayVec<Pending, 22>
+    pub fn pending(&self) -> ArrayVec<Pending, SLOTS>
         ensures { result.items ≡ self.now.pending }
     {
         self.slots.pending()
@@ -303,15 +303,18 @@ impl InFlight {
         self.board.release(unit);
     }
 
-    /// The reference in a place of the hopper, if memory may accept it.
+    /// Whether memory may accept the reference in a place of the hopper.
     ///
     /// # Errors
     /// The first that applies: `Nothing`, `BankBusy` or `OlderAtAddress`.
-    pub fn may_accept(&self, place: u8) -> Result<Reference, Refusal>
+    pub fn may_accept(&self, place: u8) -> Result<(), Refusal>
         ensures { refusal_of (tests_found (seek (entry_at place) self.now.pending)
             (λ f. accept_tests self.now.busy f.earlier f.answer)) ≡ refusal_in result }
     {
-        self.hopper.may_accept(place)
+        match self.hopper.may_accept(place) {
+            Ok(_) => Ok(()),
+            Err(refusal) => Err(refusal),
+        }
     }
 
     /// Accepts the reference in a place of the hopper, whose bank is then busy. A load then has its word in its

@@ -16,4 +16,4 @@ mod slots;
 pub use flight::InFlight;
 pub use pending::{Arrival, Outstanding, Pending, Phase, Stage};
 pub use referring::Relocated;
-pub use slots::Located;
+pub use slots::{Located, SLOTS};

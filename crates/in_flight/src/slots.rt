@@ -5,7 +5,8 @@ ghost use Rattle.in_flight.specs.declared.pending.Phase.TheVariants.{Before, Aft
 ghost use Rattle.in_flight.specs.declared.pending.Stage.TheVariants.{Unread};
 ghost use Rattle.instructions.specs.Finding.{seek, replaced};
 ghost use Rattle.in_flight.specs.Lookup.{stage_at, entry_at, arrival_at, in_phase, kept, located, first_of};
-ghost use Rattle.in_flight.specs.inner.Slots.{HasRoom, has_none, lower_of, lowest_of, number_of, with_slot, with_slots};
+ghost use Rattle.in_flight.specs.inner.Slots.{HasRoom, IsWithin, has_none, lower_of, lowest_of, number_of, with_slot};
+ghost use Rattle.in_flight.specs.inner.Slots.{with_slots, places_with, channels_with};
 ghost use Rattle.instructions.specs.Order.{insert_by};
 
 use crate::{Arrival, Outstanding, Pending, Phase, Stage};
@@ -13,6 +14,10 @@ use arrayvec::ArrayVec;
 use hopper::Reference;
 use instruction_table::Unit;
 use std::marker::Model;
+
+/// How many instructions can be pending at most: one in each of the 10 units, the 4 places of the hopper and the 8 load
+/// channels.
+pub const SLOTS: usize = 22;
 
 /// A pending instruction that was found, with the answer of the search.
 #[derive(Clone, Copy, Drop)]
@@ -99,7 +104,7 @@ fn first_above(list: &[Pending], number: u64) -> Option<usize>
 }
 
 /// Inserts an instruction before the first one with a greater number.
-fn insert(list: &mut ArrayVec<Pending, 22>, pending: Pending)
+fn insert(list: &mut ArrayVec<Pending, SLOTS>, pending: Pending)
     requires { length list.old.items < 22 }
     ensures items { list.new.items ≡ insert_by number_of pending list.old.items }
     ensures room { length list.new.items ≡ length list.old.items + 1 }
@@ -112,7 +117,7 @@ fn insert(list: &mut ArrayVec<Pending, 22>, pending: Pending)
 
 /// Inserts the instruction in a slot, if there is one.
 #[tactic(auto, unfolding(crate::specs::inner::Slots::with_slot))]
-fn insert_slot(list: &mut ArrayVec<Pending, 22>, slot: &Option<Pending>)
+fn insert_slot(list: &mut ArrayVec<Pending, SLOTS>, slot: &Option<Pending>)
     requires { length list.old.items < 22 }
     ensures items { list.new.items ≡ with_slot slot.now list.old.items }
     ensures room { length list.new.items ≤ length list.old.items + 1 }
@@ -123,13 +128,36 @@ fn insert_slot(list: &mut ArrayVec<Pending, 22>, slot: &Option<Pending>)
 }
 
 /// Inserts the instructions in slots, beginning with the last slot.
-fn insert_slots(list: &mut ArrayVec<Pending, 22>, slots: &[Option<Pending>])
+fn insert_slots(list: &mut ArrayVec<Pending, SLOTS>, slots: &[Option<Pending>])
     requires { length list.old.items + length slots.now ≤ 22 }
     ensures items { list.new.items ≡ with_slots slots.now list.old.items }
     ensures room { length list.new.items ≤ length list.old.items + length slots.now }
 {
     for index in (0..slots.len()).rev() {
         insert_slot(list, &slots[index]);
+    }
+}
+
+/// Puts an instruction into the place of the hopper or the channel of its rest. Without a rest nothing changes.
+#[tactic(auto, unfolding(crate::proofs::Opened::moved_to_its_rest))]
+fn put_rest(
+    places: &mut [Option<Pending>],
+    channels: &mut [Option<Pending>],
+    pending: &Pending,
+    rest: &Option<Outstanding>,
+)
+    requires { IfSome rest.now (IsWithin (length places.old) (length channels.old)) }
+    ensures places { places.new ≡ places_with places.old pending.now rest.now }
+    ensures channels { channels.new ≡ channels_with channels.old pending.now rest.now }
+{
+    let Some(left) = rest else {
+        return;
+    };
+    let mut moved = *pending;
+    moved.phase = Phase::After(*left);
+    match left {
+        Outstanding::Entered(place, ..) => places[usize::from(*place)] = Some(moved),
+        Outstanding::Accepted(n, _) => channels[usize::from(n.get())] = Some(moved),
     }
 }
 
@@ -167,7 +195,7 @@ impl Slots {
     }
 
     /// The pending instructions, in issue order.
-    pub fn pending(&self) -> ArrayVec<Pending, 22>
+    pub fn pending(&self) -> ArrayVec<Pending, SLOTS>
         ensures { result.items ≡ self.now }
     {
         let mut list = ArrayVec::new();
@@ -211,18 +239,11 @@ impl Slots {
     {
         let index = unit as usize;
         let slot = self.units[index];
-        let Some(mut pending) = slot else {
+        let Some(pending) = slot else {
             return;
         };
         self.units[index] = None;
-        let Some(left) = later else {
-            return;
-        };
-        pending.phase = Phase::After(*left);
-        match left {
-            Outstanding::Entered(place, ..) => self.places[usize::from(*place)] = Some(pending),
-            Outstanding::Accepted(n, _) => self.channels[usize::from(n.get())] = Some(pending),
-        }
+        put_rest(&mut self.places, &mut self.channels, &pending, later);
     }
 
     /// Takes the instruction out of a place of the hopper. The rest of it goes to its channel.
@@ -233,18 +254,11 @@ impl Slots {
     {
         let index = usize::from(place);
         let slot = self.places[index];
-        let Some(mut pending) = slot else {
+        let Some(pending) = slot else {
             return;
         };
         self.places[index] = None;
-        let Some(left) = later else {
-            return;
-        };
-        pending.phase = Phase::After(*left);
-        match left {
-            Outstanding::Entered(place, ..) => self.places[usize::from(*place)] = Some(pending),
-            Outstanding::Accepted(n, _) => self.channels[usize::from(n.get())] = Some(pending),
-        }
+        put_rest(&mut self.places, &mut self.channels, &pending, later);
     }
 
     /// The instruction whose reference waits in a place of the hopper, with the reference.

@@ -4,12 +4,12 @@ use Rattle.scoreboard.specs.Units.{first_unit, head_unit, units_of, same_unit}
 use Rattle.scoreboard.specs.Writers.{same_writer, is_expected, writer_at, writer_if}
 use Rattle.scoreboard.specs.inner.Fields.{free_for}
 
--- the first of the units of a kind
+-- the first unit of a kind
 unfoldable pub first_of_kind : Unit {0}
 unfolding first_unit head_unit units_of
 first_of_kind = tt
 
--- the first unit of a kind that is free
+-- the first free unit of a kind
 unfoldable pub free_of_kind : Unit {0}
 unfolding free_for first_free units_of
 free_of_kind = tt

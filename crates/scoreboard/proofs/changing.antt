@@ -1,4 +1,4 @@
--- What a board is after each change.
+-- A board after each change.
 pub mod Right
 pub mod Changing
 pub mod Reserving

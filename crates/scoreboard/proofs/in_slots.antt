@@ -1,4 +1,4 @@
--- The slots of a board as one list, and who of it writes or reads a register.
+-- A board's slots as one list, and the writers and readers of each register.
 pub mod Small
 pub mod Registers
 pub mod Writing

@@ -7,11 +7,14 @@ ghost use Rattle.instructions.specs.Operands.{uses};
 ghost use Rattle.scoreboard.specs.Reservations.{is_branch, has_turn, has_store_turn};
 ghost use Rattle.scoreboard.specs.Issued.{reservation_of};
 ghost use Rattle.scoreboard.specs.Conflicts.{unit_for};
-ghost use Rattle.scoreboard.specs.inner.Fields.{slot_is, slot_reads, slot_has_turn};
+ghost use Rattle.scoreboard.specs.inner.Fields.{slot_is};
 ghost use Rattle.scoreboard.specs.Answers.{held_in, returning_by, read_answer, store_answer, return_answer};
 ghost use Rattle.scoreboard.specs.Answers.{turn_answer, reserve_answer, reserved, read, left, gone, with_issued};
 
-use crate::fields::{any_reference, first_unit, forget_in_taken, free_unit};
+use crate::fields::{
+    any_reference, first_unit, first_with_writer, forget_in_taken, free_unit,
+    has_earlier_reference, is_still_read,
+};
 use crate::{Issued, Occupancy, Reservation, Writer, Writers};
 use instructions::{Digit, Instr, MemoryUse, Refusal, Reg, Unit, results, sources};
 use std::marker::Model;
@@ -90,9 +93,8 @@ impl Board {
         };
         let results = results(instr);
         let taken = self.writers.of(results.as_slice());
-        let mut pairs = results.as_slice().iter().zip(taken.iter());
-        match pairs.find(|(_, writer)| writer.is_some()) {
-            Some((register, _)) => Err(Refusal::ResultReserved(*register)),
+        match first_with_writer(results.as_slice(), &taken) {
+            Some(register) => Err(Refusal::ResultReserved(register)),
             None => Ok((unit, self.last + 1)),
         }
     }
@@ -160,13 +162,8 @@ impl Board {
         }
         // The sources themselves are needed only for a refusal.
         let sources = sources(&issued.reservation.instr);
-        match sources
-            .as_slice()
-            .iter()
-            .zip(awaited)
-            .find(|(_, producer)| producer.is_some())
-        {
-            Some((register, _)) => Err(Refusal::OperandAwaited(*register)),
+        match first_with_writer(sources.as_slice(), awaited) {
+            Some(register) => Err(Refusal::OperandAwaited(register)),
             None => Ok(()),
         }
     }
@@ -177,7 +174,6 @@ impl Board {
     /// # Errors
     /// `ResultHeld` if an earlier instruction has yet to read a register that the store event writes. It names the
     /// first such register.
-    #[tactic(auto, unfolding(crate::specs::inner::Fields::slot_reads))]
     pub fn may_store(&self, unit: Unit) -> Result<(), Refusal>
         ensures { result ≡ store_answer (seek (held_in unit) self.now.issued) }
     {
@@ -189,18 +185,7 @@ impl Board {
         let Some(register) = issued.reservation.instr.sets() else {
             return Ok(());
         };
-        let is_held = self.units.iter().any(
-            |slot|
-                ensures { result ≡ slot_reads issued.number register slot.now }
-            {
-                match slot {
-                    Some(other) => other.number < issued.number
-                        && other.reservation.has_to_read(&register),
-                    None => false,
-                }
-            },
-        );
-        if is_held {
+        if is_still_read(&self.units, issued.number, &register) {
             Err(Refusal::ResultHeld(register))
         } else {
             Ok(())
@@ -212,7 +197,6 @@ impl Board {
     ///
     /// # Errors
     /// `ResultHeld` with that register, if an earlier instruction has yet to read it.
-    #[tactic(auto, unfolding(crate::specs::inner::Fields::slot_reads))]
     pub fn may_return(&self, channel: u8) -> Result<(), Refusal>
         requires { channel < 8 }
         ensures { result ≡ return_answer channel (seek (returning_by channel) self.now.issued) }
@@ -222,18 +206,7 @@ impl Board {
             return Ok(());
         };
         let register = Reg::X(digit(channel));
-        let is_read = self.units.iter().any(
-            |slot|
-                ensures { result ≡ slot_reads load.number register slot.now }
-            {
-                match slot {
-                    Some(other) => other.number < load.number
-                        && other.reservation.has_to_read(&register),
-                    None => false,
-                }
-            },
-        );
-        if is_read {
+        if is_still_read(&self.units, load.number, &register) {
             Err(Refusal::ResultHeld(register))
         } else {
             Ok(())
@@ -245,7 +218,6 @@ impl Board {
     ///
     /// # Errors
     /// `OutOfTurn` if an earlier reference has not yet had its store event.
-    #[tactic(auto, unfolding(crate::specs::inner::Fields::slot_has_turn))]
     pub fn in_turn(&self, unit: Unit) -> Result<(), Refusal>
         ensures { result ≡ turn_answer (seek (held_in unit) self.now.issued) }
     {
@@ -257,18 +229,7 @@ impl Board {
         if issued.reservation.instr.memory().is_none() {
             return Ok(());
         }
-        let number = issued.number;
-        let waits = self.units.iter().any(
-            |slot|
-                ensures { result ≡ slot_has_turn number slot.now }
-            {
-                match slot {
-                    Some(other) => other.number < number && other.reservation.has_turn(),
-                    None => false,
-                }
-            },
-        );
-        if waits {
+        if has_earlier_reference(&self.units, issued.number) {
             Err(Refusal::OutOfTurn)
         } else {
             Ok(())

@@ -7,11 +7,12 @@ ghost use Rattle.instructions.specs.Operands.{uses};
 ghost use Rattle.scoreboard.specs.Units.{first_unit};
 ghost use Rattle.scoreboard.specs.Reservations.{has_turn};
 ghost use Rattle.scoreboard.specs.inner.Fields.{slot_at, in_increment, is_taken, slot_is};
-ghost use Rattle.scoreboard.specs.inner.Fields.{free_for, forget_in_taken};
+ghost use Rattle.scoreboard.specs.inner.Fields.{free_for, forget_in_taken, slot_reads, slot_has_turn, first_produced};
+ghost use Rattle.std.specs.List.{list_any};
 
 use crate::writer::forget_in;
 use crate::{Issued, Writer};
-use instructions::{Instr, Unit, UnitKind, unit_kind};
+use instructions::{Instr, Reg, Unit, UnitKind, unit_kind};
 
 /// Whether an issued reference has yet to have its store event. Only Branch and the Increment units take references.
 #[tactic(auto, unfolding(crate::specs::inner::Fields::slot_is))]
@@ -26,6 +27,54 @@ pub(crate) fn any_reference(units: &[Option<Issued>]) -> bool
     refers(&units[Unit::Branch as usize])
         || refers(&units[Unit::Increment1 as usize])
         || refers(&units[Unit::Increment2 as usize])
+}
+
+/// The first of the registers that has a writer. The writers are in the order of the registers.
+pub(crate) fn first_with_writer(registers: &[Reg], writers: &[Option<Writer>]) -> Option<Reg>
+    ensures { result ≡ first_produced registers.now writers.now }
+{
+    match registers
+        .iter()
+        .zip(writers)
+        .find(|(_, writer)| writer.is_some())
+    {
+        Some((register, _)) => Some(*register),
+        None => None,
+    }
+}
+
+/// Whether an instruction with a lower number has yet to read the register.
+#[tactic(auto, unfolding(crate::specs::inner::Fields::slot_reads))]
+pub(crate) fn is_still_read(units: &[Option<Issued>], number: u64, register: &Reg) -> bool
+    ensures { result ≡ list_any (slot_reads number register.now) units.now }
+{
+    units.iter().any(
+        |slot|
+            ensures { result ≡ slot_reads number register.entry.now slot.now }
+        {
+            match slot {
+                Some(other) => other.number < number && other.reservation.has_to_read(register),
+                None => false,
+            }
+        },
+    )
+}
+
+/// Whether an instruction with a lower number makes a reference that has not yet had its store event.
+#[tactic(auto, unfolding(crate::specs::inner::Fields::slot_has_turn))]
+pub(crate) fn has_earlier_reference(units: &[Option<Issued>], number: u64) -> bool
+    ensures { result ≡ list_any (slot_has_turn number) units.now }
+{
+    units.iter().any(
+        |slot|
+            ensures { result ≡ slot_has_turn number slot.now }
+        {
+            match slot {
+                Some(other) => other.number < number && other.reservation.has_turn(),
+                None => false,
+            }
+        },
+    )
 }
 
 /// The lower-numbered free unit of the instruction's kind. `None` if the instruction takes no unit or no unit of its

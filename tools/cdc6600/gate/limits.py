@@ -392,9 +392,7 @@ LIMITS = {
     ("instruction_table/src/encoding.rt", "ArrayVec<u16, "): PARCELS,
     ("instructions/src/registers.rt", "ArrayVec<Reg, "): REGISTERS,
     ("scoreboard/src/reservation.rt", "ArrayVec<Reg, "): REGISTERS,
-    ("in_flight/src/slots.rt", "ArrayVec<Pending, "): SLOTS,
-    ("in_flight/src/flight.rt", "ArrayVec<Pending, "): SLOTS,
-    ("machine/src/processor.rt", "ArrayVec<Pending, "): SLOTS,
+    ("in_flight/src/slots.rt", "SLOTS"): SLOTS,
     # Patterns of bits.
     ("deck/src/coding.rt", "PASS"): BITS,
     ("word60/src/word18.rt", "ONES"): BITS,

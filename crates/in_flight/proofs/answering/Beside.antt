@@ -1,4 +1,4 @@
--- What the board and the hopper answer, beside the list of pending instructions.
+-- The answers of board and hopper, compared with the list of pending instructions.
 use Rattle.std.proofs.Common.{◌≡◌, ◌<◌, ◌≤◌, ℕ, suc, Bool, true, false, cond, List, [], ◌∷◌, ◌++◌, Option, Some, None}
 use Rattle.std.proofs.Common.{refl, sym, ap, ◌∙◌, subst, eqb, get_or, arith, append-nil}
 use Rattle.std.specs.Prelude.{◌&&◌, ◌||◌, not, is_none, is_some, Result, Ok, Err, IfSome, replicate, unwrap_or}
@@ -133,7 +133,7 @@ any-append f (x ∷ xs) ys = ap (λ b. f x || b) (any-append f xs ys) ∙ or_ass
     or_assoc true b c = refl
     or_assoc false b c = refl
 
--- a test of a reference that waits, asked of all that wait
+-- a test of all waiting references, put as a test of phases
 waiting_any : (f : Entered → Bool) (g : Phase → Bool) → ((p : Phase) → list_any f (waiting_in p) ≡ g p)
     → (ms : List Pending) → list_any f (waiting ms) ≡ list_any (λ m. g m.phase) ms
 unfolding waiting
@@ -167,7 +167,7 @@ any_either f g (x ∷ xs) =
     exchange false false true d = refl
     exchange false false false d = refl
 
--- a test of what the board has, or one of what waits in the hopper, is a test of each pending instruction
+-- a test of the board's reservations or of the hopper's references, put as a test of each pending instruction
 delayed_by : (t : Reservation → Bool) (f : Entered → Bool) (g : Phase → Bool)
     → ((reservation : Reservation) → reservation.occupancy ≡ Left None → t reservation ≡ false)
     → ((p : Phase) → list_any f (waiting_in p) ≡ g p) → (ms : List Pending) (queue : Queue) (standing : Standing)
@@ -223,7 +223,7 @@ pub waiting_one : (m : Pending) → waiting (m ∷ []) ≡ waiting_in m.phase
 unfolding waiting
 waiting_one m = append-nil (waiting_in m.phase)
 
--- an instruction put back that waits for as much as before
+-- replacing an instruction by one that waits for the same reference leaves the hopper's list as it is
 pub waiting_same : {K : Type 0} (g : Pending → Option K) (ms : List Pending) (f : Found Pending K) (xs : List Pending)
     → seek g ms ≡ Some f → waiting xs ≡ waiting_in f.item.phase → waiting (put_back f xs) ≡ waiting ms
 waiting_same g ms f xs h e =
@@ -237,7 +237,7 @@ staged_waits u ms f t h =
     waiting_same (stage_at u) ms f (in_phase f.item (Before t) ∷ []) h
     (waiting_one (in_phase f.item (Before t)) ∙ sym (ap waiting_in q))
 
--- numbers
+-- the numbers of the others, after an instruction was replaced
 pub each_put : {K : Type 0} (P : Pending → Type 0) (g : Pending → Option K) (ms : List Pending) (f : Found Pending K)
     (xs : List Pending) → seek g ms ≡ Some f → (P f.item → Each P xs) → Each P ms → Each P (put_back f xs)
 unfolding put_back
@@ -528,7 +528,7 @@ unfolding located
 what_there None s h = cc
 what_there (Some f) s h = ap (λ x. x.answer) (same_Some _ s h)
 
--- all but the pending stays
+-- a flight in which only the pending instructions changed
 pub changed_flight : (g : List Pending → List Pending) (ms ns : List Pending) (queue : Queue) (b c : Standing)
     (xs : List Issued) (f : Flight) → flight_of ms queue b ≡ f → ns ≡ g ms → c ≡ with_issued b xs
     → flight_of ns queue c ≡ with_pending f (g f.pending)
@@ -612,7 +612,7 @@ reserve_ok b i (Some u) p h = by_test (list_any (conflict.awaited reservation_of
     by_test false k e =
         let q = ok_inj (u, suc b.last) p (Ok (u, suc b.last)) refl e in (ap (λ x. Some x.0) q, ap (λ x. x.1) (sym q))
 
--- the unit and the number that are answered
+-- the unit and the number in the answer
 pub reserved_as : (ms : List Pending) (i : Instr) (b : Standing) (r : Result (FunctionalUnit × ℕ) Refusal)
     (p : FunctionalUnit × ℕ) → b.issued ≡ on_board ms
     → r ≡ reserve_answer b i (conflict.unit_for reservation_of_issued b.issued (uses i).unit) → r ≡ Ok p

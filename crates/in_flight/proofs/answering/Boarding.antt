@@ -1,4 +1,4 @@
--- The list of pending instructions, and those of them that a board has.
+-- The list of pending instructions, and the part of it that the board has.
 use Rattle.std.proofs.Common.{◌≡◌, ℕ, Bool, true, false, cond, List, [], ◌∷◌, ◌++◌, Option, Some, None, refl, sym, ap}
 use Rattle.std.proofs.Common.{◌∙◌, subst, eqb}
 use Rattle.std.specs.Prelude.{◌&&◌, ◌||◌, unwrap_or}
@@ -51,7 +51,7 @@ use Rattle.instructions.proofs.Finding.{seek_splits, seek_around}
 use Rattle.instructions.proofs.Lists.{any_same}
 use Rattle.in_flight.proofs.asking.Finding.{stage_found, entry_in_found}
 
--- the one that was found, as it is found on the board
+-- the found instruction, as a search of the board finds it
 unfoldable pub found_on_board : {K : Type 0} → Option (Found Pending K) → Option (Found Issued Instr)
 found_on_board None = None
 found_on_board (Some f) = Some
@@ -75,7 +75,7 @@ board-append (m ∷ xs) ys = by_occupancy (reservation_of m).occupancy (board-ap
     by_occupancy (Left (Some n)) e = ap (λ l. issued_of m ∷ l) e
     by_occupancy (Left None) e = e
 
--- a test that an entered store fails
+-- a test that is false for an instruction that has left the board
 pub board_any : (t : Reservation → Bool) → ((reservation : Reservation) → reservation.occupancy ≡ Left None
     → t reservation ≡ false) → (ms : List Pending)
     → list_any (λ x. t (reservation_of_issued x)) (on_board ms) ≡ list_any (λ m. t (reservation_of m)) ms
@@ -167,7 +167,7 @@ after_on m (Some f) h = ap (λ l. Some
       later = on_board f.later;
     })) (kept_here (reservation_of m).occupancy (on_board f.earlier) (issued_of m) h)
 
--- the one that is looked for by its reservation is the one that is looked for among the pending
+-- searching the board by reservation finds the same instruction as searching the pending instructions
 board_seek : {K : Type 0} (f : Pending → Option K) (g : Issued → Option Instr)
     → ((m : Pending) (k : K) → f m ≡ Some k → g (issued_of m) ≡ Some m.instr)
     → ((m : Pending) → f m ≡ None → g (issued_of m) ≡ None)
@@ -330,7 +330,7 @@ returning_here n m x h =
     ap (λ p. cond (returns_in n p) (Some m.instr) None) (arrival_occupancy n m x h)
     ∙ ap (λ b. cond b (Some m.instr) None) (eq-eqb n n refl)
 
--- the board's part of a list round an instruction that it has
+-- the board's part of a list around one of its instructions
 board_around : (es : List Pending) (m : Pending) (ls : List Pending) → ((reservation_of m).occupancy ≡ Left None → ⊥)
     → on_board (es ++ m ∷ ls) ≡ on_board es ++ issued_of m ∷ on_board ls
 unfolding on_board
@@ -338,7 +338,7 @@ board_around es m ls h =
     board-append es (m ∷ ls) ∙ ap (λ l. on_board es ++ l) (kept_here (reservation_of m).occupancy (on_board ls)
     (issued_of m) h)
 
--- a load that returns, as it is found on the board
+-- a returning load, as a search of the board finds it
 pub return_found : (n : ℕ) (ms : List Pending) (f : Found Pending Arrival) → seek (arrival_at n) ms ≡ Some f
     → awaited reservation_of f.earlier (X n) ≡ false → seek (returning_by n) (on_board ms) ≡ found_on_board (Some f)
 unfolding found_on_board
@@ -385,7 +385,7 @@ read_follows u ms f os h =
     ∙ ap (λ l. on_board f.earlier ++ (l ++ on_board f.later)) (read_put f.item os)
     ∙ sym (unit_changed u ms f read h)
 
--- a list whose changed instruction is seen as before
+-- a list in which the changed instruction answers as before
 same_put : {K : Type 0} (g : Pending → Option K) (ms : List Pending) (f : Found Pending K) (xs : List Pending)
     → seek g ms ≡ Some f → on_board xs ≡ on_board (f.item ∷ []) → on_board (put_back f xs) ≡ on_board ms
 same_put g ms f xs h e =
@@ -398,7 +398,7 @@ seen_alike : (m n : Pending) → issued_of m ≡ issued_of n → on_board (m ∷
 unfolding on_board issued_of
 seen_alike m n e = ap (λ (x : Issued). kept_on x.reservation.occupancy [] x) e
 
--- an instruction that has read comes to another stage in which it has
+-- an instruction that has read reaches another stage after the read
 pub stage_follows : (u : FunctionalUnit) (ms : List Pending) (f : Found Pending Stage) (v : UnitValue)
     → seek (stage_at u) ms ≡ Some f → has_read f.answer ≡ true
     → on_board (put_back f (in_phase f.item (Before (Finished v)) ∷ [])) ≡ on_board ms

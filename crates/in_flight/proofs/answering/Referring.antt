@@ -1,4 +1,4 @@
--- References that enter the hopper and are taken by their banks, beside the list of pending instructions.
+-- References that enter the hopper and that banks accept, compared with the list of pending instructions.
 use Rattle.std.proofs.Common.{◌≡◌, ◌≢◌, ◌<◌, ◌≤◌, ◌+◌, ℕ, Bool, true, false, cond, List, [], ◌∷◌, ◌++◌, Option, Some}
 use Rattle.std.proofs.Common.{None, refl, sym, ap, ◌∙◌, subst, eqb, ltb, get_or, set, length, arith, append-nil}
 use Rattle.std.specs.Prelude.{◌&&◌, ◌||◌, is_none, is_some, Result, Ok, Err, IfSome, unwrap_or}
@@ -219,7 +219,7 @@ accept_answered p ms queue r e k = by_found (seek (entry_at p) ms) refl
     by_found (Some f) h =
         some_answer queue.busy p f ∙ sym (ap (λ x. refusal_in (accept_answer queue.busy x)) (queue_found p ms f h))
 
--- what was taken stood in the place
+-- the accepted reference waited in the place
 pub accept_found : (p : ℕ) (ms : List Pending) (queue : Queue) (a : Result Reference Refusal) (r : Reference)
     → queue.entered ≡ waiting ms → a ≡ accept_answer queue.busy (seek_in (reference_at p) queue.entered) → a ≡ Ok r
     → (f : Found Pending Reference) × (seek (entry_at p) ms ≡ Some f) × (f.answer ≡ r)
@@ -245,7 +245,7 @@ entry_answered p ms f r h e =
     subst (λ o. IfSome o (λ x. x.answer ≡ record { address = r.address; access = r.access })) (sym h)
     (ap (λ (z : Reference). record { address = z.address; access = z.access }) e)
 
--- its place, its address and its channel
+-- the place, address and channel of the reference
 pub entry_placed : (size p : ℕ) (ms : List Pending) (f : Found Pending Reference) → HasOwnSlots size ms
     → seek (entry_at p) ms ≡ Some f → IsPlaced size f.item.unit (After (HasEntered p f.answer.address f.answer.access))
 entry_placed size p ms f own_slots h =
@@ -255,7 +255,7 @@ entry_placed size p ms f own_slots h =
 
 -- ---- the channel of a load ----
 
--- two of which the load of one register is still to come aren't apart
+-- two instructions that are both to load the same register aren't apart
 one_load : (n : ℕ) (rs ts : List Reg) (e l : Pending) → to_come e ≡ ts ++ X n ∷ [] → to_come l ≡ rs ++ X n ∷ []
     → IsApart e l → ⊥
 unfolding overlap is_in
@@ -275,7 +275,7 @@ coming_to n y b h =
     let p = arrival_is n y b h in
     coming_in n p.0.word y (arrival_phase n y p.0 p.1)
 
--- nobody else waits in the channel of a load that is still to return
+-- no other load waits in the channel of a load that is still to return
 pub channel_free : (n : ℕ) (rs : List Reg) (es : List Pending) (m : Pending) (ls : List Pending)
     → Pairs IsApart (es ++ m ∷ ls) → to_come m ≡ rs ++ X n ∷ [] → n < 8 → slot_of m ≢ 14 + n
     → AreElsewhere (14 + n) (es ++ m ∷ ls)
@@ -406,7 +406,7 @@ accept_flight memory p ms ns queue after b f r l now ev tied h e el en eq =
 
 -- ---- what a unit's instruction leaves ----
 
--- where it waits, the hopper's lowest free place is that of the list
+-- if the reference waits, the hopper's lowest free place is that of the list
 pub later_is : (ms : List Pending) (queue : Queue) (rest : Option Relocated) (l : Option Outstanding)
     → queue.entered ≡ waiting ms → l ≡ outstanding_of (unwrap_or (free_in queue.entered) 0) rest
     → l ≡ outstanding_of (unwrap_or (place_for ms) 0) rest
@@ -506,14 +506,14 @@ room_for_rest u ms queue f rest l e apart h is room el =
     subst (λ z. HasRoom z ms) (sym (later_is ms queue rest l e el))
     (room_left u ms f rest apart h (rest_of_found u ms f rest h is) room)
 
--- where a reference enters, the hopper has room for it
+-- if a reference enters, the hopper has room for it
 pub room_in_queue : (ms : List Pending) (queue : Queue) (rest : Option Relocated) → queue.entered ≡ waiting ms
     → (enters (outstanding_of 0 rest) ≡ true → is_none (place_for ms) ≡ false)
     → enters (outstanding_of 0 rest) ≡ true → is_none (free_in queue.entered) ≡ false
 unfolding place_for
 room_in_queue ms queue rest e room k = ap (λ es. is_none (free_in es)) e ∙ room k
 
--- it enters the hopper where it is in range
+-- a reference in range enters the hopper
 pub enters_in_range : (r : Relocated) → enters (outstanding_of 0 (Some r)) ≡ is_some r.address
 unfolding enters outstanding_of entering
 enters_in_range r = by_parts r.address r.access
@@ -523,17 +523,17 @@ enters_in_range r = by_parts r.address r.access
     by_parts None (Load n) = refl
     by_parts None (Store w) = refl
 
--- where there is no reference none enters
+-- without a reference, none enters
 pub none_enters : enters (outstanding_of 0 None) ≡ false
 unfolding enters outstanding_of
 none_enters = refl
 
--- the hopper when what is left of an instruction has come to wait in it, if it is a reference
+-- the hopper after the outstanding reference of an instruction has entered, if there is one
 pub queue_with : Queue → Option Outstanding → Queue
 queue_with queue None = queue
 queue_with queue (Some l) = record queue { entered = queue.entered ++ waiting_in (After l) }
 
--- what is left of an instruction, by its reference, has come to wait in the hopper; the others are as they were
+-- the outstanding reference of an instruction has entered the hopper, and the other references are unchanged
 pub record HasCome (i j : Inside) (rest : Option Relocated) (l : Option Outstanding) : Type 0 where
   pub left : l ≡ outstanding_of (unwrap_or (free_in i.hopper.entered) 0) rest
   pub slots : j.slots ≡ i.slots
@@ -562,7 +562,7 @@ has_entered i j rest q a p r queue l er ei ea eo eq el ej = record {
   queue = ap (λ (k : Inside). k.hopper) ej ∙ eq ∙ sym (ap (queue_with i.hopper) el);
 }
 
--- a hopper with room doesn't refuse
+-- a hopper with room doesn't refuse a reference
 pub not_refused : (es : List Entered) (rest : Option Relocated) (q : Relocated) (a : ℕ) (r : Result ℕ Refusal)
     (refusal : Refusal) → rest ≡ Some q → q.address ≡ Some a → r ≡ enter_answer (free_in es) → r ≡ Err refusal → (enters (outstanding_of 0 rest) ≡ true → is_none (free_in es) ≡ false) → ⊥
 unfolding enter_answer

@@ -1,4 +1,4 @@
--- The pending instruction that an event names, and the tests that its answer passed.
+-- The pending instruction that an event names, and the tests that it passed.
 use Rattle.std.proofs.Common.{◌≡◌, ℕ, Bool, true, false, cond, List, [], ◌∷◌, Some, None, refl, ap, eqb}
 use Rattle.std.proofs.lemmas.Option.{same_Some}
 use Rattle.instructions.specs.Each.{Each}
@@ -16,7 +16,7 @@ use Rattle.in_flight.specs.declared.pending.Phase.TheVariants.{After, Before}
 use Rattle.in_flight.specs.declared.pending.Stage.{Stage}
 use Rattle.in_flight.specs.declared.slots.Located.{Located}
 
--- no refusal: no test failed
+-- if nothing is refused, no test failed
 pub refusal_none : (ts : List Test) → refusal_of ts ≡ None → Each (λ t. t.fails ≡ false) ts
 unfolding refusal_of
 refusal_none [] h = tt
@@ -31,7 +31,7 @@ pub not_nothing : refusal_of nothing ≡ None → ⊥
 unfolding refusal_of nothing
 not_nothing h = cc
 
--- the instruction that was located is the one that was found
+-- the located instruction is the found one
 pub sought_pending : {K : Type 0} (f : Found Pending K) (s : Located K) → located (Some f) ≡ Some s → f.item ≡ s.pending
 unfolding located
 sought_pending {K} f s h = ap (λ (x : Located K). x.pending) (same_Some _ s h)

@@ -1,4 +1,4 @@
--- What a phase says of the instruction in it, whichever that is.
+-- Facts about an instruction that follow from its phase alone.
 use Rattle.std.proofs.Common.{◌≡◌, ℕ, Bool, true, false, List, [], Option, Some, None, refl}
 use Rattle.std.specs.Prelude.{◌+◌, ◌&&◌, ◌||◌, ◌==◌, not}
 use Rattle.instructions.specs.declared.instr.Reg.{Reg}
@@ -34,16 +34,16 @@ may_store_in f a (After (Entered place b (StoreWord w))) = b == a
 may_store_in f a (After (Entered place b (LoadInto n))) = false
 may_store_in f a (After (Accepted n w)) = false
 
--- it may still store to that absolute address
+-- whether the instruction may still store to that absolute address
 unfoldable pub may_store : ℕ → Pending → Bool
 may_store a m = may_store_in (has_store (shape_of m.instr)) a m.phase
 
--- the registers that an option of what is left writes
+-- the registers that an optional outstanding reference writes
 unfoldable pub targets_left : Option Outstanding → List Reg
 targets_left None = []
 targets_left (Some l) = target_of l
 
--- the slot of a pending instruction: units have the slots 0 to 6, places 7 to 10, channels 11 to 15
+-- the slot of a pending instruction: 0 to 6 for units, 7 to 10 for places, 11 to 15 for channels
 unfoldable pub slot_in : FunctionalUnit → Phase → ℕ
 slot_in unit (Before t) = unit_slot unit
 slot_in unit (After (Entered place a access)) = 7 + place
@@ -66,7 +66,7 @@ may_store_none f g a (After (Entered place b (StoreWord w))) h k = h
 may_store_none f g a (After (Entered place b (LoadInto n))) h k = refl
 may_store_none f g a (After (Accepted n w)) h k = refl
 
--- an instruction that delays no fetch of a word, and is no branch, stores nothing there
+-- an instruction that delays no fetch of a word and is no branch doesn't store to that word
 pub stores_nothing : (a : ℕ) (m : Pending) → delays_fetch a m ≡ false → is_branch m ≡ false → may_store a m ≡ false
 unfolding delays_fetch is_branch reservation_of reservation.has_store_turn reservation.is_branch may_store
 stores_nothing a m h k =

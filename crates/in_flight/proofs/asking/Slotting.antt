@@ -1,4 +1,4 @@
--- Each event leaves every pending instruction with a slot of its own, so that sixteen places are enough.
+-- After each event every pending instruction has a slot of its own, so sixteen slots are enough.
 use Rattle.std.proofs.Common.{◌≡◌, ◌≢◌, ◌<◌, ◌≤◌, ℕ, false, List, [], ◌∷◌, ◌++◌, refl, sym, ap, ◌∙◌, subst, eqb, get_or}
 use Rattle.std.proofs.Common.{arith, Bool, true, cond, Some, None}
 use Rattle.std.proofs.lemmas.Bool.{eqb-false, ne_eqb, or_parts}
@@ -40,7 +40,7 @@ use Rattle.in_flight.specs.Lookup.{entry_at, entry_in, in_place, in_phase}
 
 -- ---- numbers of slots ----
 
--- the number of the unit that has a slot
+-- the number of the unit with a slot
 abbrev number_at : ℕ → ℕ
 number_at slot = get_or (0 ∷ 1 ∷ 2 ∷ 4 ∷ 7 ∷ 8 ∷ 9 ∷ []) slot 0
 
@@ -61,7 +61,7 @@ one_number : (u v : FunctionalUnit) → unit_slot u < 7 → unit_slot v < 7 → 
     → unit_number u ≡ unit_number v
 one_number u v h k e = sym (number_of_slot u h) ∙ ap number_at e ∙ number_of_slot v k
 
--- units that differ have slots that differ
+-- different units have different slots
 pub other_slot : (u v : FunctionalUnit) → unit_slot u < 7 → unit_slot v < 7 → same_unit u v ≡ false
     → eqb (unit_slot u) (unit_slot v) ≡ false
 unfolding same_unit
@@ -174,7 +174,7 @@ slotted_stage size es m ls t s e h =
     (each_map (λ x. clash m x ≡ false) (λ x. clash (in_phase m (Before s)) x ≡ false) (λ x k. clash_left x m t s e ∙ k)
     ls (pairs_right (λ a b. clash a b ≡ false) es (m ∷ ls) h.apart).0)
 
--- the place that it takes is taken by another
+-- whether another instruction has taken the place
 unfoldable pub taken_by : Outstanding → Pending → Bool
 taken_by (Entered p a access) m = in_place p m
 taken_by (Accepted n w) m = false

@@ -1,4 +1,4 @@
--- The pending instructions as one list: each is inserted by its number, the last slot's first.
+-- The pending instructions as one list: each is inserted by its number, beginning with the last slot.
 use Rattle.std.proofs.Common.{◌≡◌, ◌<◌, ◌≤◌, ◌+◌, ℕ, zero, suc, Bool, true, false, cond, List, [], ◌∷◌, ◌++◌, Option}
 use Rattle.std.proofs.Common.{Some, None, refl, sym, ap, ◌∙◌, ltb, length, drop, get_or, add-one, arith}
 use Rattle.std.specs.Prelude.{not}

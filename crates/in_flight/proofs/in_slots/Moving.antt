@@ -1,7 +1,7 @@
--- The list that the slots stand for, when an instruction is found in its slot, changed there, moved or taken out.
+-- The list that the slots represent, after an instruction is found in its slot, changed there, moved or removed.
 use Rattle.std.proofs.Common.{◌≡◌, ◌≢◌, ◌<◌, ◌≤◌, ◌+◌, ℕ, Bool, true, false, cond, List, [], ◌∷◌, ◌++◌}
 use Rattle.std.proofs.Common.{Option, Some, None, refl, sym, ap, ◌∙◌, subst, eqb, ltb, get_or, set, length, arith}
-use Rattle.std.specs.Prelude.{◌&&◌, is_none}
+use Rattle.std.specs.Prelude.{◌&&◌, is_none, IfSome}
 use Rattle.std.specs.List.{list_all}
 use Rattle.std.proofs.lemmas.Bool.{eq-eqb, ne_eqb, lt-ltb, ltb-true, ltb-false}
 use Rattle.std.proofs.lemmas.List.{length-set, set-set, set-append_left, get_or_append_left, get_or-set_same}
@@ -10,9 +10,9 @@ use Rattle.scoreboard.specs.Units.{unit_number, same_unit}
 use Rattle.instructions.specs.Each.{Each, Pairs}
 use Rattle.instructions.specs.Order.{insert_by, sort_by, somes, IsInSlots}
 use Rattle.instructions.proofs.Lists.{each_map}
-use Rattle.instructions.proofs.Slots.{in_slots_others, in_slots_nobody, in_slots_here, in_slots_empty, in_slots_fill}
+use Rattle.instructions.proofs.Slots.{in_slots_here, in_slots_empty, in_slots_fill}
 use Rattle.instructions.proofs.Slots.{slot_empty}
-use Rattle.instructions.proofs.Slots.{slots_below, before_slot, after_slot, found_there, found_nobody, within}
+use Rattle.instructions.proofs.Slots.{slots_below, before_slot, after_slot, found_nobody, within}
 use Rattle.instructions.proofs.Slots.{others_differ, own_taken, own_put, taken_without, moved_with, sort_new}
 use Rattle.instructions.proofs.Slots.{each_taken}
 use Rattle.scoreboard.proofs.in_slots.InSlots.{get_back, set_back, unit_below}
@@ -25,121 +25,106 @@ use Rattle.in_flight.specs.declared.pending.Pending.{Pending}
 use Rattle.in_flight.specs.declared.pending.Phase.{Phase}
 use Rattle.in_flight.specs.declared.pending.Phase.TheVariants.{Before, After}
 use Rattle.in_flight.specs.declared.pending.Stage.{Stage}
-use Rattle.instructions.specs.Finding.{seek, put_back, replaced}
+use Rattle.instructions.specs.Finding.{seek, replaced}
 use Rattle.in_flight.specs.Lookup.{stage_in, stage_at, entry_in, entry_at, arrival_in, arrival_at, in_phase, kept}
 use Rattle.in_flight.specs.Lookup.{located}
 use Rattle.in_flight.specs.inner.Slots.{number_of, slot_in, slot_of, slots, in_order, IsRight, AreElsewhere, HasRoom}
-use Rattle.in_flight.specs.inner.Slots.{has_none}
+use Rattle.in_flight.specs.inner.Slots.{has_none, IsWithin, places_with, channels_with}
 use Rattle.instructions.proofs.Sorted.{each_sorted}
+use Rattle.in_flight.proofs.asking.Finding.{stage_found}
+use Rattle.in_flight.proofs.in_slots.Asked.{IsOfSlot, AreSlots, asked_found, asked_nobody, asked_view, nobody_view}
 
 -- ---- in order ----
 
 abbrev Own : List (Option Pending) → Type 0
 Own os = Pairs (λ x y. number_of x ≢ number_of y) (somes os)
 
+-- the item in the slot, with its answer
+asked_answer : {W : Type 0} (ask : Pending → Option W) (os : List (Option Pending)) (i : ℕ) (m : Pending) (x : W)
+    → IsOfSlot slot_of ask i → AreSlots slot_of number_of os → get_or os i None ≡ Some m → ask m ≡ Some x
+    → Some (record { pending = m; answer = x }) ≡ located (seek ask (in_order os))
+unfolding located
+asked_answer ask os i m x q s h k =
+    let f = asked_found slot_of number_of ask os i m q s h in
+    let e : Some x ≡ Some f.0 = sym k ∙ f.1 in
+    let xe : x ≡ f.0 = cc in
+    ap (λ z. Some (record { pending = m; answer = z })) xe ∙ ap located (sym f.2)
+
+asked_must : {W : Type 0} (ask : Pending → Option W) (os : List (Option Pending)) (i : ℕ) (m : Pending)
+    → IsOfSlot slot_of ask i → AreSlots slot_of number_of os → get_or os i None ≡ Some m → ask m ≡ None → ⊥
+asked_must ask os i m q s h k =
+    let f = asked_found slot_of number_of ask os i m q s h in let e : None ≡ Some f.0 = sym k ∙ f.1 in cc
+
 -- ---- the one that holds a unit ----
 
-none_either : (b : Bool) (o : Option Stage) → o ≡ None → cond b o None ≡ None
-none_either true o h = h
-none_either false o h = refl
+stage_here : (u v : FunctionalUnit) (p : Phase) → slot_in v p ≡ unit_number u → (t : Stage)
+    × (cond (same_unit v u) (stage_in p) None ≡ Some t)
+unfolding slot_in same_unit stage_in
+stage_here u v (Before t) h = (t, ap (λ b. cond b (Some t) None) (eq-eqb (unit_number v) (unit_number u) h))
+stage_here u v (After (Entered p a x)) h = absurd (let b = unit_below u in grind (arith, b))
+stage_here u v (After (Accepted n w)) h = absurd (let b = unit_below u in grind (arith, b))
 
-stage_not_in : (u v : FunctionalUnit) (p : Phase) → (slot_in v p ≡ unit_number u → ⊥)
+stage_others : (u v : FunctionalUnit) (p : Phase) → slot_in v p ≢ unit_number u
     → cond (same_unit v u) (stage_in p) None ≡ None
-unfolding slot_in stage_in same_unit
-stage_not_in u v (Before t) h = ap (λ b. cond b (Some t) None) (ne_eqb (unit_number v) (unit_number u) h)
-stage_not_in u v (After l) h = none_either (eqb (unit_number v) (unit_number u)) (stage_in (After l)) refl
+unfolding slot_in same_unit stage_in
+stage_others u v (Before t) h = ap (λ b. cond b (Some t) None) (ne_eqb (unit_number v) (unit_number u) h)
+stage_others u v (After l) h = grind arith
 
-stage_not : (u : FunctionalUnit) (y : Pending) → (slot_of y ≡ unit_number u → ⊥) → stage_at u y ≡ None
+stage_asked : (u : FunctionalUnit) (i : ℕ) → i ≡ unit_number u → IsOfSlot slot_of (stage_at u) i
 unfolding stage_at slot_of
-stage_not u y h = stage_not_in u y.unit y.phase h
+stage_asked u i e = record {
+  here = λ m h. stage_here u m.unit m.phase (h ∙ e);
+  others = λ m h. stage_others u m.unit m.phase (λ q. h (q ∙ sym e));
+}
 
-far_entered : (u : FunctionalUnit) (p : ℕ) → cond (ltb p 4) (10 + p) 22 ≡ unit_number u → ⊥
-far_entered u p h = by_test (ltb p 4) h
-  where
-    by_test : (b : Bool) → cond b (10 + p) 22 ≡ unit_number u → ⊥
-    by_test true e = let q = unit_below u in omega (arith, e, q)
-    by_test false e = let q = unit_below u in omega (arith, e, q)
-
-far_accepted : (u : FunctionalUnit) (n : ℕ) → cond (ltb n 8) (14 + n) 22 ≡ unit_number u → ⊥
-far_accepted u n h = by_test (ltb n 8) h
-  where
-    by_test : (b : Bool) → cond b (14 + n) 22 ≡ unit_number u → ⊥
-    by_test true e = let q = unit_below u in omega (arith, e, q)
-    by_test false e = let q = unit_below u in omega (arith, e, q)
-
-stage_is_in : (u v : FunctionalUnit) (p : Phase) → slot_in v p ≡ unit_number u → (t : Stage) × (p ≡ Before t)
-    × (same_unit v u ≡ true)
-unfolding slot_in same_unit
-stage_is_in u v (Before t) h = (t, refl, eq-eqb (unit_number v) (unit_number u) h)
-stage_is_in u v (After (Entered p a x)) h = absurd (far_entered u p h)
-stage_is_in u v (After (Accepted n w)) h = absurd (far_accepted u n h)
-
-pub stage_is : (u : FunctionalUnit) (m : Pending) → slot_of m ≡ unit_number u → (t : Stage) × (m.phase ≡ Before t)
-    × (stage_at u m ≡ Some t)
-unfolding stage_at slot_of stage_in
-stage_is u m h =
-    let p = stage_is_in u m.unit m.phase h in
-    (p.0, p.1, ap (λ b. cond b (stage_in m.phase) None) p.2 ∙ ap stage_in p.1)
-
-others_elsewhere : (u : FunctionalUnit) (os : List (Option Pending)) (i : ℕ) → i ≡ unit_number u
-    → IsInSlots slot_of 0 os → Each (λ y. stage_at u y ≡ None) (somes (set os i None))
-others_elsewhere u os i e s =
-    each_map (λ y. slot_of y ≢ i) (λ y. stage_at u y ≡ None) (λ y k. stage_not u y (λ q. k (q ∙ sym e)))
-    (somes (set os i None)) (in_slots_others slot_of os 0 i i (omega arith) s)
+as_slots : (units places channels : List (Option Pending)) → IsRight units places channels
+    → AreSlots slot_of number_of (slots units places channels)
+as_slots units places channels right = record { stands = right.stands; own = right.own }
 
 unit_slot : (units places channels : List (Option Pending)) (i : ℕ) (o : Option Pending) → i < length units
     → get_or units i None ≡ o → get_or (slots units places channels) i None ≡ o
 unfolding slots
 unit_slot units places channels i o l h = get_or_append_left units (places ++ channels) None i l ∙ h
 
-pub stage_found : (units places channels : List (Option Pending)) (u : FunctionalUnit) (i : ℕ) (m : Pending)
-    → IsRight units places channels → i ≡ unit_number u → get_or units i None ≡ Some m
-    → (t : Stage) × (m.phase ≡ Before t) × (stage_at u m ≡ Some t)
-    × (seek (stage_at u) (in_order (slots units places channels))
-    ≡ Some (record {
-      earlier = before_slot number_of (slots units places channels) i m;
-      item = m;
-      answer = t;
-      later = after_slot number_of (slots units places channels) i m;
-    }))
-stage_found units places channels u i m right e h =
-    let os : List (Option Pending) = slots units places channels in
-    let here : get_or os i None ≡ Some m = unit_slot units places channels i (Some m) (within units i m h) h in
-    let p = stage_is u m (in_slots_here slot_of os 0 i m here right.stands ∙ omega (arith, e)) in (
-      p.0,
-      p.1,
-      p.2,
-      found_there number_of (stage_at u) os i m p.0 here right.own p.2
-          (others_elsewhere u os i e right.stands),
-    )
+unit_empty : (units places channels : List (Option Pending)) (u : FunctionalUnit) (i : ℕ)
+    → IsRight units places channels → i ≡ unit_number u → get_or units i None ≡ None
+    → get_or (slots units places channels) i None ≡ None
+unit_empty units places channels u i right e h =
+    let b = unit_below u in unit_slot units places channels i None (omega (arith, b, e, right.all_units)) h
 
 pub stage_nobody : (units places channels : List (Option Pending)) (u : FunctionalUnit) (i : ℕ)
     → IsRight units places channels → i ≡ unit_number u → get_or units i None ≡ None
     → seek (stage_at u) (in_order (slots units places channels)) ≡ None
 stage_nobody units places channels u i right e h =
-    let os : List (Option Pending) = slots units places channels in
-    let b = unit_below u in
-    found_nobody number_of (stage_at u) os
-    (each_map (λ y. slot_of y ≢ i) (λ y. stage_at u y ≡ None) (λ y k. stage_not u y (λ q. k (q ∙ sym e)))
-    (somes os) (in_slots_nobody slot_of os i
-    (unit_slot units places channels i None (omega (arith, b, e, right.all_units)) h) right.stands))
+    asked_nobody slot_of number_of (stage_at u) (slots units places channels) i (stage_asked u i e)
+    (as_slots units places channels right) (unit_empty units places channels u i right e h)
+
+stage_in_unit : (units places channels : List (Option Pending)) (u : FunctionalUnit) (i : ℕ) (m : Pending)
+    → IsRight units places channels → i ≡ unit_number u → get_or units i None ≡ Some m
+    → (t : Stage) × (stage_at u m ≡ Some t)
+stage_in_unit units places channels u i m right e h =
+    let q = asked_found slot_of number_of (stage_at u) (slots units places channels) i m (stage_asked u i e)
+    (as_slots units places channels right) (unit_slot units places channels i (Some m) (within units i m h) h) in
+    (q.0, q.1)
 
 pub found_answer : (units places channels : List (Option Pending)) (u : FunctionalUnit) (i : ℕ) (m : Pending)
     (t : Stage) → IsRight units places channels → i ≡ unit_number u → get_or units i None ≡ Some m
     → m.phase ≡ Before t → Some (record { pending = m; answer = t })
     ≡ located (seek (stage_at u) (in_order (slots units places channels)))
-unfolding located
 found_answer units places channels u i m t right e h k =
-    let p = stage_found units places channels u i m right e h in
-    let q : Before t ≡ Before p.0 = sym k ∙ p.1 in
-    let tp : t ≡ p.0 = cc in
-    ap (λ x. Some (record { pending = m; answer = x })) tp ∙ ap located (sym p.3)
+    let p = stage_in_unit units places channels u i m right e h in
+    let q : Before t ≡ Before p.0 = sym k ∙ stage_found u m p.0 p.1 in
+    let tp : p.0 ≡ t = cc in
+    asked_answer (stage_at u) (slots units places channels) i m t (stage_asked u i e)
+    (as_slots units places channels right) (unit_slot units places channels i (Some m) (within units i m h) h)
+    (p.1 ∙ ap Some tp)
 
 pub found_must : (units places channels : List (Option Pending)) (u : FunctionalUnit) (i : ℕ) (m : Pending)
     (l : Outstanding) → IsRight units places channels → i ≡ unit_number u → get_or units i None ≡ Some m
     → m.phase ≡ After l → ⊥
 found_must units places channels u i m l right e h k =
-    let p = stage_found units places channels u i m right e h in let q : After l ≡ Before p.0 = sym k ∙ p.1 in cc
+    let p = stage_in_unit units places channels u i m right e h in
+    let q : After l ≡ Before p.0 = sym k ∙ stage_found u m p.0 p.1 in cc
 
 -- ---- changed in its slot ----
 
@@ -177,7 +162,7 @@ unfolding slots
 staged_right units places channels u i m s right e h =
     let os : List (Option Pending) = units ++ (places ++ channels) in
     let here = unit_slot units places channels i (Some m) (within units i m h) h in
-    let p = stage_found units places channels u i m right e h in
+    let p = stage_in_unit units places channels u i m right e h in
     let front = set-append_left units (places ++ channels) i (Some (in_phase m (Before s))) (within units i m h) in
     record {
       all_units = length-set units i (Some (in_phase m (Before s))) ∙ right.all_units;
@@ -185,7 +170,7 @@ staged_right units places channels u i m s right e h =
       all_channels = right.all_channels;
       stands = subst (IsInSlots slot_of 0) front
           (in_slots_fill slot_of os 0 i (in_phase m (Before s))
-          (staged_slot m p.0 s p.1 ∙ in_slots_here slot_of os 0 i m here right.stands) right.stands);
+          (staged_slot m p.0 s (stage_found u m p.0 p.1) ∙ in_slots_here slot_of os 0 i m here right.stands) right.stands);
       own = subst Own (set-set os i None (Some (in_phase m (Before s))) ∙ front)
           (own_moved os i i m (Before s) here right.own (empty_there os i m here) (within os i m here));
     }
@@ -210,40 +195,24 @@ pub staged_view : (units places channels : List (Option Pending)) (u : Functiona
     → in_order (slots (set units i (Some (in_phase m (Before s)))) places channels)
     ≡ replaced (seek (stage_at u) (in_order (slots units places channels)))
     (in_order (slots units places channels)) (λ x. in_phase x (Before s) ∷ [])
-unfolding replaced put_back
 staged_view units places channels u i m s right e h =
-    let os : List (Option Pending) = slots units places channels in
-    let here = unit_slot units places channels i (Some m) (within units i m h) h in
-    let p = stage_found units places channels u i m right e h in
-    staged_order units places channels i m s h right.own
-    ∙ ap (λ o. replaced o (in_order os) (λ x. in_phase x (Before s) ∷ [])) (sym p.3)
+    asked_view slot_of number_of (stage_at u) (slots units places channels) i m (λ x. in_phase x (Before s) ∷ []) _
+    (stage_asked u i e) (as_slots units places channels right)
+    (unit_slot units places channels i (Some m) (within units i m h) h)
+    (staged_order units places channels i m s h right.own)
 
 pub nobody_replaced : (g : Pending → List Pending) (units places channels : List (Option Pending)) (u : FunctionalUnit)
     (i : ℕ) → IsRight units places channels → i ≡ unit_number u → get_or units i None ≡ None
     → in_order (slots units places channels)
     ≡ replaced (seek (stage_at u) (in_order (slots units places channels)))
     (in_order (slots units places channels)) g
-unfolding replaced
 nobody_replaced g units places channels u i right e h =
-    ap (λ o. replaced o (in_order (slots units places channels)) g)
-    (sym (stage_nobody units places channels u i right e h))
+    nobody_view slot_of number_of (stage_at u) (slots units places channels) i g (stage_asked u i e)
+    (as_slots units places channels right) (unit_empty units places channels u i right e h)
 
 -- ---- moved to its place or its channel ----
 
--- the places of the hopper when what is left of an instruction has come to its own
-unfoldable pub places_with : List (Option Pending) → Pending → Option Outstanding → List (Option Pending)
-places_with places m None = places
-places_with places m (Some (Entered place a access)) =
-    set places place (Some (in_phase m (After (Entered place a access))))
-places_with places m (Some (Accepted n word)) = places
-
--- the channels when what is left of an instruction has come to its own
-unfoldable pub channels_with : List (Option Pending) → Pending → Option Outstanding → List (Option Pending)
-channels_with channels m None = channels
-channels_with channels m (Some (Entered place a access)) = channels
-channels_with channels m (Some (Accepted n word)) = set channels n (Some (in_phase m (After (Accepted n word))))
-
--- what is left of an instruction has come to its own, and the others are as they were
+-- an instruction has moved to its place or channel, and the others are unchanged
 abbrev pub HasRest : (places channels : List (Option Pending)) → Pending → Option Outstanding
     → (ps cs : List (Option Pending)) → Type 0
 HasRest places channels m l ps cs = (ps ≡ places_with places m l) × (cs ≡ channels_with channels m l)
@@ -252,36 +221,22 @@ pub rest_over : (p q channels ps cs : List (Option Pending)) (m : Pending) (l : 
     → HasRest p channels m l ps cs → HasRest q channels m l ps cs
 rest_over p q channels ps cs m l e r = subst (λ x. HasRest x channels m l ps cs) e r
 
-pub no_rest : (places channels : List (Option Pending)) (m : Pending) (l : Option Outstanding) → l ≡ None
-    → HasRest places channels m l places channels
+no_rest : (places channels : List (Option Pending)) (m : Pending) → HasRest places channels m None places channels
 unfolding places_with channels_with
-no_rest places channels m l e = (sym (ap (places_with places m) e), sym (ap (channels_with channels m) e))
+no_rest places channels m = (refl, refl)
 
-pub rest_in_place : (places channels : List (Option Pending)) (m : Pending) (l : Option Outstanding) (o : Outstanding)
-    (k p a : ℕ) (x : Access) → l ≡ Some o → o ≡ Entered p a x → k ≡ p
-    → HasRest places channels m l (set places k (Some (in_phase m (After o)))) channels
-unfolding places_with channels_with
-rest_in_place places channels m l o k p a x e h q = (
-  ap (λ k. set places k (Some (in_phase m (After o)))) q
-      ∙ ap (λ o. set places p (Some (in_phase m (After o)))) h ∙ sym (ap (places_with places m) (e ∙ ap Some h)),
-  sym (ap (channels_with channels m) (e ∙ ap Some h)),
-)
-
-pub rest_in_channel : (places channels : List (Option Pending)) (m : Pending) (l : Option Outstanding)
-    (o : Outstanding) (k n : ℕ) (w : ℕ) → l ≡ Some o → o ≡ Accepted n w → k ≡ n
-    → HasRest places channels m l places (set channels k (Some (in_phase m (After o))))
-unfolding places_with channels_with
-rest_in_channel places channels m l o k n w e h q = (
-  sym (ap (places_with places m) (e ∙ ap Some h)),
-  ap (λ k. set channels k (Some (in_phase m (After o)))) q
-      ∙ ap (λ o. set channels n (Some (in_phase m (After o)))) h ∙ sym (ap (channels_with channels m) (e ∙ ap Some h)),
-)
+-- the place or the channel of the rest exists
+pub rest_within : (places channels : List (Option Pending)) (l : Option Outstanding) (ms : List Pending)
+    → length places ≡ 4 → length channels ≡ 8 → HasRoom l ms → IfSome l (IsWithin (length places) (length channels))
+rest_within places channels None ms p c room = tt
+rest_within places channels (Some (Entered place a access)) ms p c room = subst (λ n. place < n) (sym p) room.0
+rest_within places channels (Some (Accepted n word)) ms p c room = subst (λ k. n < k) (sym c) room.0
 
 abbrev later_slot : Outstanding → ℕ
 later_slot (Entered place a access) = 10 + place
 later_slot (Accepted n word) = 14 + n
 
--- what is left of an instruction, in its slot
+-- the moved instruction, in its slot
 left_slots : (units places channels : List (Option Pending)) (m : Pending) (l : Outstanding) (ms : List Pending)
     → length units ≡ 10 → length places ≡ 4 → HasRoom (Some l) ms
     → set (slots units places channels) (later_slot l) (Some (in_phase m (After l)))
@@ -336,72 +291,91 @@ with_lengths places channels m None = (refl, refl)
 with_lengths places channels m (Some (Entered place a access)) = (length-set places place _, refl)
 with_lengths places channels m (Some (Accepted n word)) = (refl, length-set channels n _)
 
-nothing_with : (units places channels : List (Option Pending)) (m : Pending)
-    → slots units places channels ≡ slots units (places_with places m None) (channels_with channels m None)
-unfolding places_with channels_with
-nothing_with units places channels m = refl
+rest_there : (units places channels ps cs : List (Option Pending)) (m : Pending) (l : Option Outstanding)
+    → HasRest places channels m l ps cs
+    → slots units (places_with places m l) (channels_with channels m l) ≡ slots units ps cs
+rest_there units places channels ps cs m l rest = cc
 
--- one taken out of its slot: after it the slots are those of the other three lists, and what is left goes among them
-pub moved_right : (os units places channels : List (Option Pending)) (i : ℕ) (m : Pending) (l : Option Outstanding)
-    → IsInSlots slot_of 0 os → Own os → length os ≡ 22 → get_or os i None ≡ Some m
-    → set os i None ≡ slots units places channels → length units ≡ 10 → length places ≡ 4 → length channels ≡ 8
-    → HasRoom l (in_order os) → IsRight units (places_with places m l) (channels_with channels m l)
-moved_right os units places channels i m None s own all h e lu lp lc room = record {
-  all_units = lu;
-  all_places = (with_lengths places channels m None).0 ∙ lp;
-  all_channels = (with_lengths places channels m None).1 ∙ lc;
-  stands = subst (IsInSlots slot_of 0) (e ∙ nothing_with units places channels m) (in_slots_empty slot_of os 0 i s);
-  own = subst Own (e ∙ nothing_with units places channels m) (own_taken number_of os i m h own);
+none_there : (units places channels ps cs : List (Option Pending)) (m : Pending) → HasRest places channels m None ps cs
+    → slots units places channels ≡ slots units ps cs
+unfolding places_with channels_with
+none_there units places channels ps cs m rest = cc
+
+-- an item is in its slot; without it, the slots are those of the three lists
+record IsOut (os units places channels : List (Option Pending)) (i : ℕ) (m : Pending) : Type 0 where
+  there : get_or os i None ≡ Some m
+  rest : set os i None ≡ slots units places channels
+  all : length os ≡ 22
+  all_units : length units ≡ 10
+  all_places : length places ≡ 4
+  all_channels : length channels ≡ 8
+
+-- the removed instruction moves into one of the three lists
+moved_right : (os units places channels ps cs : List (Option Pending)) (i : ℕ) (m : Pending) (l : Option Outstanding)
+    → AreSlots slot_of number_of os → IsOut os units places channels i m → HasRoom l (in_order os)
+    → HasRest places channels m l ps cs → IsRight units ps cs
+moved_right os units places channels ps cs i m None s o room rest = record {
+  all_units = o.all_units;
+  all_places = ap length rest.0 ∙ (with_lengths places channels m None).0 ∙ o.all_places;
+  all_channels = ap length rest.1 ∙ (with_lengths places channels m None).1 ∙ o.all_channels;
+  stands = subst (IsInSlots slot_of 0) (o.rest ∙ none_there units places channels ps cs m rest)
+      (in_slots_empty slot_of os 0 i s.stands);
+  own = subst Own (o.rest ∙ none_there units places channels ps cs m rest)
+      (own_taken number_of os i m o.there s.own);
 }
-moved_right os units places channels i m (Some l) s own all h e lu lp lc room =
+moved_right os units places channels ps cs i m (Some l) s o room rest =
     let low = left_below l (in_order os) room in
-    let there = ap (λ k. set k (later_slot l) (Some (in_phase m (After l)))) e
-    ∙ left_slots units places channels m l (in_order os) lu lp room in
+    let there = ap (λ k. set k (later_slot l) (Some (in_phase m (After l)))) o.rest
+    ∙ left_slots units places channels m l (in_order os) o.all_units o.all_places room
+    ∙ rest_there units places channels ps cs m (Some l) rest in
     record {
-      all_units = lu;
-      all_places = (with_lengths places channels m (Some l)).0 ∙ lp;
-      all_channels = (with_lengths places channels m (Some l)).1 ∙ lc;
+      all_units = o.all_units;
+      all_places = ap length rest.0 ∙ (with_lengths places channels m (Some l)).0 ∙ o.all_places;
+      all_channels = ap length rest.1 ∙ (with_lengths places channels m (Some l)).1 ∙ o.all_channels;
       stands = subst (IsInSlots slot_of 0) there
           (in_slots_fill slot_of (set os i None) 0 (later_slot l) (in_phase m (After l))
-          (left_stands m l (in_order os) room ∙ omega arith) (in_slots_empty slot_of os 0 i s));
-      own = subst Own there (own_moved os i (later_slot l) m (After l) h own (left_empty os i l s room)
-          (omega (arith, all, low)));
+          (left_stands m l (in_order os) room ∙ omega arith) (in_slots_empty slot_of os 0 i s.stands));
+      own = subst Own there (own_moved os i (later_slot l) m (After l) o.there s.own
+          (left_empty os i l s.stands room) (omega (arith, o.all, low)));
     }
 
-pub moved_order : (os units places channels : List (Option Pending)) (i : ℕ) (m : Pending) (l : Option Outstanding)
-    → IsInSlots slot_of 0 os → Own os → length os ≡ 22 → get_or os i None ≡ Some m
-    → set os i None ≡ slots units places channels → length units ≡ 10 → length places ≡ 4 → HasRoom l (in_order os)
-    → in_order (slots units (places_with places m l) (channels_with channels m l)) ≡ before_slot number_of os i m
-    ++ (kept m l ++ after_slot number_of os i m)
+moved_order : (os units places channels ps cs : List (Option Pending)) (i : ℕ) (m : Pending) (l : Option Outstanding)
+    → AreSlots slot_of number_of os → IsOut os units places channels i m → HasRoom l (in_order os)
+    → HasRest places channels m l ps cs
+    → in_order (slots units ps cs) ≡ before_slot number_of os i m ++ (kept m l ++ after_slot number_of os i m)
 unfolding kept
-moved_order os units places channels i m None s own all h e lu lp room =
-    ap (λ k. sort_by number_of (somes k)) (sym (e ∙ nothing_with units places channels m))
+moved_order os units places channels ps cs i m None s o room rest =
+    ap (λ k. sort_by number_of (somes k)) (sym (o.rest ∙ none_there units places channels ps cs m rest))
     ∙ taken_without number_of (number_of m) os i
-moved_order os units places channels i m (Some l) s own all h e lu lp room =
+moved_order os units places channels ps cs i m (Some l) s o room rest =
     let low = left_below l (in_order os) room in
     ap (λ k. sort_by number_of (somes k))
-    (sym (ap (λ k. set k (later_slot l) (Some (in_phase m (After l)))) e
-    ∙ left_slots units places channels m l (in_order os) lu lp room))
-    ∙ moved_with number_of os i (later_slot l) m (in_phase m (After l)) h (phase_number m (After l))
-    (left_empty os i l s room) (room_there os i (later_slot l) (omega (arith, all, low))) own
+    (sym (ap (λ k. set k (later_slot l) (Some (in_phase m (After l)))) o.rest
+    ∙ left_slots units places channels m l (in_order os) o.all_units o.all_places room
+    ∙ rest_there units places channels ps cs m (Some l) rest))
+    ∙ moved_with number_of os i (later_slot l) m (in_phase m (After l)) o.there (phase_number m (After l))
+    (left_empty os i l s.stands room) (room_there os i (later_slot l) (omega (arith, o.all, low))) s.own
 
 -- ---- out of a unit ----
 
-units_without : (units places channels : List (Option Pending)) (i : ℕ) → i < length units
-    → set (slots units places channels) i None ≡ slots (set units i None) places channels
+unit_out : (units places channels : List (Option Pending)) (i : ℕ) (m : Pending) → IsRight units places channels
+    → get_or units i None ≡ Some m → IsOut (slots units places channels) (set units i None) places channels i m
 unfolding slots
-units_without units places channels i l = set-append_left units (places ++ channels) i None l
+unit_out units places channels i m right h = record {
+  there = unit_slot units places channels i (Some m) (within units i m h) h;
+  rest = set-append_left units (places ++ channels) i None (within units i m h);
+  all = all_slots units places channels right;
+  all_units = length-set units i None ∙ right.all_units;
+  all_places = right.all_places;
+  all_channels = right.all_channels;
+}
 
 pub left_right : (units places channels ps cs : List (Option Pending)) (i : ℕ) (m : Pending) (l : Option Outstanding)
     → IsRight units places channels → get_or units i None ≡ Some m → HasRoom l (in_order (slots units places channels))
     → HasRest places channels m l ps cs → IsRight (set units i None) ps cs
-left_right units places channels ps cs i m l right h room rest =
-    subst (λ q. IsRight (set units i None) q cs) (sym rest.0)
-    (subst (IsRight (set units i None) (places_with places m l)) (sym rest.1)
-    (moved_right (slots units places channels) (set units i None) places channels i m l right.stands right.own
-    (all_slots units places channels right) (unit_slot units places channels i (Some m) (within units i m h) h)
-    (units_without units places channels i (within units i m h)) (length-set units i None ∙ right.all_units)
-    right.all_places right.all_channels room))
+left_right units places channels ps cs i m l right h =
+    moved_right _ _ places channels ps cs i m l (as_slots units places channels right)
+    (unit_out units places channels i m right h)
 
 pub left_view : (units places channels ps cs : List (Option Pending)) (u : FunctionalUnit) (i : ℕ) (m : Pending)
     (l : Option Outstanding) → IsRight units places channels → i ≡ unit_number u → get_or units i None ≡ Some m
@@ -409,58 +383,36 @@ pub left_view : (units places channels ps cs : List (Option Pending)) (u : Funct
     → HasRest places channels m l ps cs → in_order (slots (set units i None) ps cs)
     ≡ replaced (seek (stage_at u) (in_order (slots units places channels)))
     (in_order (slots units places channels)) (λ x. kept x l)
-unfolding replaced put_back
 left_view units places channels ps cs u i m l right e h room rest =
-    ap (λ q. in_order (slots (set units i None) q cs)) rest.0
-    ∙ ap (λ q. in_order (slots (set units i None) (places_with places m l) q)) rest.1
-    ∙ moved_order (slots units places channels) (set units i None) places channels i m l right.stands right.own
-    (all_slots units places channels right) (unit_slot units places channels i (Some m) (within units i m h) h)
-    (units_without units places channels i (within units i m h)) (length-set units i None ∙ right.all_units)
-    right.all_places room
-    ∙ ap (λ o. replaced o (in_order (slots units places channels)) (λ x. kept x l))
-    (sym (stage_found units places channels u i m right e h).3)
+    let o = unit_out units places channels i m right h in
+    let s = as_slots units places channels right in
+    asked_view slot_of number_of (stage_at u) _ i m (λ x. kept x l) _ (stage_asked u i e) s o.there
+    (moved_order _ _ places channels ps cs i m l s o room rest)
 
 -- ---- out of a place ----
 
-entry_not_in : (p : ℕ) (v : FunctionalUnit) (q : Phase) → p < 4 → (slot_in v q ≡ 10 + p → ⊥) → entry_in p q ≡ None
-unfolding entry_in slot_in
-entry_not_in p v (Before t) b h = refl
-entry_not_in p v (After (Accepted n w)) b h = refl
-entry_not_in p v (After (Entered s a x)) b h =
-    ap (λ t. cond t (Some (record { address = a; access = x })) None)
-    (ne_eqb s p (λ e. h (ap (λ t. cond t (10 + s) 22) (lt-ltb s 4 (omega (arith, b, e))) ∙ ap (λ k. 10 + k) e)))
-
-entry_not : (p : ℕ) (y : Pending) → p < 4 → (slot_of y ≡ 10 + p → ⊥) → entry_at p y ≡ None
-unfolding entry_at slot_of
-entry_not p y b h = entry_not_in p y.unit y.phase b h
-
-in_a_place : (p s : ℕ) → p < 4 → cond (ltb s 4) (10 + s) 22 ≡ 10 + p → s ≡ p
-in_a_place p s b h = by_test (ltb s 4) h
-  where
-    by_test : (t : Bool) → cond t (10 + s) 22 ≡ 10 + p → s ≡ p
-    by_test true e = omega (arith, e)
-    by_test false e = absurd (omega (arith, e, b))
-
-not_a_place : (p n : ℕ) → p < 4 → cond (ltb n 8) (14 + n) 22 ≡ 10 + p → ⊥
-not_a_place p n b h = by_test (ltb n 8) h
-  where
-    by_test : (t : Bool) → cond t (14 + n) 22 ≡ 10 + p → ⊥
-    by_test true e = omega (arith, e, b)
-    by_test false e = omega (arith, e, b)
-
-entry_is_in : (p : ℕ) (v : FunctionalUnit) (q : Phase) → p < 4 → slot_in v q ≡ 10 + p → (e : Reference)
+entry_here : (p : ℕ) (v : FunctionalUnit) (q : Phase) → p < 4 → slot_in v q ≡ 10 + p → (e : Reference)
     × (entry_in p q ≡ Some e)
 unfolding entry_in slot_in
-entry_is_in p v (Before t) b h = absurd (let k = unit_below v in omega (arith, h, k))
-entry_is_in p v (After (Accepted n w)) b h = absurd (not_a_place p n b h)
-entry_is_in p v (After (Entered s a x)) b h = (
-  record { address = a; access = x },
-  ap (λ t. cond t (Some (record { address = a; access = x })) None) (eq-eqb s p (in_a_place p s b h)),
-)
+entry_here p v (Before t) b h = absurd (let k = unit_below v in omega (arith, h, k))
+entry_here p v (After (Accepted n w)) b h = absurd (grind arith)
+entry_here p v (After (Entered s a x)) b h = (record { address = a; access = x }, grind arith)
+
+entry_others : (p : ℕ) (v : FunctionalUnit) (q : Phase) → p < 4 → slot_in v q ≢ 10 + p → entry_in p q ≡ None
+unfolding entry_in slot_in
+entry_others p v (Before t) b h = refl
+entry_others p v (After (Accepted n w)) b h = refl
+entry_others p v (After (Entered s a x)) b h = grind arith
+
+pub entry_asked : (p : ℕ) → p < 4 → IsOfSlot slot_of (entry_at p) (10 + p)
+unfolding entry_at slot_of
+entry_asked p b = record {
+  here = λ m h. entry_here p m.unit m.phase b h;
+  others = λ m h. entry_others p m.unit m.phase b h;
+}
 
 pub entry_is : (p : ℕ) (m : Pending) → p < 4 → slot_of m ≡ 10 + p → (e : Reference) × (entry_at p m ≡ Some e)
-unfolding entry_at slot_of
-entry_is p m b h = entry_is_in p m.unit m.phase b h
+entry_is p m b h = (entry_asked p b).here m h
 
 place_slot : (units places channels : List (Option Pending)) (p : ℕ) (o : Option Pending) → length units ≡ 10
     → p < length places → get_or places p None ≡ o → get_or (slots units places channels) (10 + p) None ≡ o
@@ -468,71 +420,47 @@ unfolding slots
 place_slot units places channels p o lu b h = get_back units (places ++ channels) p (10 + p) None (omega (arith, lu))
     ∙ get_or_append_left places channels None p b ∙ h
 
-places_without : (units places channels : List (Option Pending)) (p : ℕ) → length units ≡ 10 → p < length places
-    → set (slots units places channels) (10 + p) None ≡ slots units (set places p None) channels
+place_out : (units places channels : List (Option Pending)) (p : ℕ) (m : Pending) → IsRight units places channels
+    → get_or places p None ≡ Some m → IsOut (slots units places channels) units (set places p None) channels (10 + p) m
 unfolding slots
-places_without units places channels p lu b = set_back units (places ++ channels) p (10 + p) None (omega (arith, lu))
-    ∙ ap (λ os. units ++ os) (set-append_left places channels p None b)
-
-pub entry_found : (units places channels : List (Option Pending)) (p : ℕ) (m : Pending) → IsRight units places channels
-    → p < 4 → get_or places p None ≡ Some m
-    → (e : Reference) × (entry_at p m ≡ Some e)
-    × (seek (entry_at p) (in_order (slots units places channels))
-    ≡ Some (record {
-      earlier = before_slot number_of (slots units places channels) (10 + p) m;
-      item = m;
-      answer = e;
-      later = after_slot number_of (slots units places channels) (10 + p) m;
-    }))
-entry_found units places channels p m right b h =
-    let os : List (Option Pending) = slots units places channels in
-    let here : get_or os (10 + p) None ≡ Some m =
-    place_slot units places channels p (Some m) right.all_units (within places p m h) h in
-    let q = entry_is p m b (in_slots_here slot_of os 0 (10 + p) m here right.stands ∙ omega arith) in (
-      q.0,
-      q.1,
-      found_there number_of (entry_at p) os (10 + p) m q.0 here right.own q.1
-          (each_map (λ y. slot_of y ≢ 10 + p) (λ y. entry_at p y ≡ None) (λ y k. entry_not p y b k)
-          (somes (set os (10 + p) None)) (in_slots_others slot_of os 0 (10 + p) (10 + p) (omega arith) right.stands)),
-    )
+place_out units places channels p m right h = record {
+  there = place_slot units places channels p (Some m) right.all_units (within places p m h) h;
+  rest = set_back units (places ++ channels) p (10 + p) None (omega (arith, right.all_units))
+      ∙ ap (λ os. units ++ os) (set-append_left places channels p None (within places p m h));
+  all = all_slots units places channels right;
+  all_units = right.all_units;
+  all_places = length-set places p None ∙ right.all_places;
+  all_channels = right.all_channels;
+}
 
 pub entry_nobody : (units places channels : List (Option Pending)) (p : ℕ) → IsRight units places channels → p < 4
     → get_or places p None ≡ None → seek (entry_at p) (in_order (slots units places channels)) ≡ None
 entry_nobody units places channels p right b h =
-    let os : List (Option Pending) = slots units places channels in
-    found_nobody number_of (entry_at p) os
-    (each_map (λ y. slot_of y ≢ 10 + p) (λ y. entry_at p y ≡ None) (λ y k. entry_not p y b k) (somes os)
-    (in_slots_nobody slot_of os (10 + p)
-    (place_slot units places channels p None right.all_units (omega (arith, b, right.all_places)) h) right.stands))
+    asked_nobody slot_of number_of (entry_at p) (slots units places channels) (10 + p) (entry_asked p b)
+    (as_slots units places channels right)
+    (place_slot units places channels p None right.all_units (omega (arith, b, right.all_places)) h)
 
 pub entry_answer : (units places channels : List (Option Pending)) (p : ℕ) (m : Pending) (x : Reference)
     → IsRight units places channels → p < 4 → get_or places p None ≡ Some m → entry_at p m ≡ Some x
     → Some (record { pending = m; answer = x }) ≡ located (seek (entry_at p) (in_order (slots units places channels)))
-unfolding located
 entry_answer units places channels p m x right b h k =
-    let f = entry_found units places channels p m right b h in
-    let q : Some x ≡ Some f.0 = sym k ∙ f.1 in
-    let xe : x ≡ f.0 = cc in
-    ap (λ z. Some (record { pending = m; answer = z })) xe ∙ ap located (sym f.2)
+    asked_answer (entry_at p) (slots units places channels) (10 + p) m x (entry_asked p b)
+    (as_slots units places channels right) (place_out units places channels p m right h).there k
 
 pub entry_must : (units places channels : List (Option Pending)) (p : ℕ) (m : Pending) → IsRight units places channels
     → p < 4 → get_or places p None ≡ Some m → entry_at p m ≡ None → ⊥
 entry_must units places channels p m right b h k =
-    let f = entry_found units places channels p m right b h in let q : None ≡ Some f.0 = sym k ∙ f.1 in cc
+    asked_must (entry_at p) (slots units places channels) (10 + p) m (entry_asked p b)
+    (as_slots units places channels right) (place_out units places channels p m right h).there k
 
 pub accepted_right : (units places channels ps cs : List (Option Pending)) (p : ℕ) (m : Pending) (l : Option
     Outstanding)
     → IsRight units places channels → get_or places p None ≡ Some m
     → HasRoom l (in_order (slots units places channels))
     → HasRest (set places p None) channels m l ps cs → IsRight units ps cs
-accepted_right units places channels ps cs p m l right h room rest =
-    subst (λ q. IsRight units q cs) (sym rest.0)
-    (subst (IsRight units (places_with (set places p None) m l)) (sym rest.1)
-    (moved_right (slots units places channels) units (set places p None) channels (10 + p) m l right.stands right.own
-    (all_slots units places channels right)
-    (place_slot units places channels p (Some m) right.all_units (within places p m h) h)
-    (places_without units places channels p right.all_units (within places p m h)) right.all_units
-    (length-set places p None ∙ right.all_places) right.all_channels room))
+accepted_right units places channels ps cs p m l right h =
+    moved_right _ _ (set places p None) channels ps cs (10 + p) m l (as_slots units places channels right)
+    (place_out units places channels p m right h)
 
 pub accepted_view : (units places channels ps cs : List (Option Pending)) (p : ℕ) (m : Pending) (l : Option Outstanding)
     → IsRight units places channels → p < 4 → get_or places p None ≡ Some m
@@ -540,66 +468,46 @@ pub accepted_view : (units places channels ps cs : List (Option Pending)) (p : �
     → HasRest (set places p None) channels m l ps cs → in_order (slots units ps cs)
     ≡ replaced (seek (entry_at p) (in_order (slots units places channels)))
     (in_order (slots units places channels)) (λ x. kept x l)
-unfolding replaced put_back
 accepted_view units places channels ps cs p m l right b h room rest =
-    ap (λ q. in_order (slots units q cs)) rest.0
-    ∙ ap (λ q. in_order (slots units (places_with (set places p None) m l) q)) rest.1
-    ∙ moved_order (slots units places channels) units (set places p None) channels (10 + p) m l right.stands right.own
-    (all_slots units places channels right)
-    (place_slot units places channels p (Some m) right.all_units (within places p m h) h)
-    (places_without units places channels p right.all_units (within places p m h)) right.all_units
-    (length-set places p None ∙ right.all_places) room
-    ∙ ap (λ o. replaced o (in_order (slots units places channels)) (λ x. kept x l))
-    (sym (entry_found units places channels p m right b h).2)
+    let o = place_out units places channels p m right h in
+    let s = as_slots units places channels right in
+    asked_view slot_of number_of (entry_at p) _ (10 + p) m (λ x. kept x l) _ (entry_asked p b) s o.there
+    (moved_order _ _ (set places p None) channels ps cs (10 + p) m l s o room rest)
 
 pub nobody_accepted : (g : Pending → List Pending) (units places channels : List (Option Pending)) (p : ℕ)
     → IsRight units places channels → p < 4 → get_or places p None ≡ None
     → in_order (slots units places channels)
     ≡ replaced (seek (entry_at p) (in_order (slots units places channels)))
     (in_order (slots units places channels)) g
-unfolding replaced
 nobody_accepted g units places channels p right b h =
-    ap (λ o. replaced o (in_order (slots units places channels)) g)
-    (sym (entry_nobody units places channels p right b h))
+    nobody_view slot_of number_of (entry_at p) (slots units places channels) (10 + p) g (entry_asked p b)
+    (as_slots units places channels right)
+    (place_slot units places channels p None right.all_units (omega (arith, b, right.all_places)) h)
 
 -- ---- out of a channel ----
 
-arrival_not_in : (n : ℕ) (v : FunctionalUnit) (q : Phase) → n < 8 → (slot_in v q ≡ 14 + n → ⊥) → arrival_in n q ≡ None
-unfolding arrival_in slot_in
-arrival_not_in n v (Before t) b h = refl
-arrival_not_in n v (After (Entered s a x)) b h = refl
-arrival_not_in n v (After (Accepted m w)) b h =
-    ap (λ t. cond t (Some (record { channel = m; word = w })) None)
-    (ne_eqb m n (λ e. h (ap (λ t. cond t (14 + m) 22) (lt-ltb m 8 (omega (arith, b, e))) ∙ ap (λ k. 14 + k) e)))
-
-arrival_not : (n : ℕ) (y : Pending) → n < 8 → (slot_of y ≡ 14 + n → ⊥) → arrival_at n y ≡ None
-unfolding arrival_at slot_of
-arrival_not n y b h = arrival_not_in n y.unit y.phase b h
-
-in_a_channel : (n m : ℕ) → n < 8 → cond (ltb m 8) (14 + m) 22 ≡ 14 + n → m ≡ n
-in_a_channel n m b h = by_test (ltb m 8) h
-  where
-    by_test : (t : Bool) → cond t (14 + m) 22 ≡ 14 + n → m ≡ n
-    by_test true e = omega (arith, e)
-    by_test false e = absurd (omega (arith, e, b))
-
-not_a_channel : (n s : ℕ) (t : Bool) → ltb s 4 ≡ t → n < 8 → cond t (10 + s) 22 ≡ 14 + n → ⊥
-not_a_channel n s true k b e = let l = ltb-true s 4 k in omega (arith, e, b, l)
-not_a_channel n s false k b e = omega (arith, e, b)
-
-arrival_is_in : (n : ℕ) (v : FunctionalUnit) (q : Phase) → n < 8 → slot_in v q ≡ 14 + n → (e : Arrival)
+arrival_here : (n : ℕ) (v : FunctionalUnit) (q : Phase) → n < 8 → slot_in v q ≡ 14 + n → (e : Arrival)
     × (arrival_in n q ≡ Some e)
 unfolding arrival_in slot_in
-arrival_is_in n v (Before t) b h = absurd (let k = unit_below v in omega (arith, h, k))
-arrival_is_in n v (After (Entered s a x)) b h = absurd (not_a_channel n s (ltb s 4) refl b h)
-arrival_is_in n v (After (Accepted m w)) b h = (
-  record { channel = m; word = w },
-  ap (λ t. cond t (Some (record { channel = m; word = w })) None) (eq-eqb m n (in_a_channel n m b h)),
-)
+arrival_here n v (Before t) b h = absurd (let k = unit_below v in omega (arith, h, k))
+arrival_here n v (After (Entered s a x)) b h = absurd (grind arith)
+arrival_here n v (After (Accepted m w)) b h = (record { channel = m; word = w }, grind arith)
+
+arrival_others : (n : ℕ) (v : FunctionalUnit) (q : Phase) → n < 8 → slot_in v q ≢ 14 + n → arrival_in n q ≡ None
+unfolding arrival_in slot_in
+arrival_others n v (Before t) b h = refl
+arrival_others n v (After (Entered s a x)) b h = refl
+arrival_others n v (After (Accepted m w)) b h = grind arith
+
+pub arrival_asked : (n : ℕ) → n < 8 → IsOfSlot slot_of (arrival_at n) (14 + n)
+unfolding arrival_at slot_of
+arrival_asked n b = record {
+  here = λ m h. arrival_here n m.unit m.phase b h;
+  others = λ m h. arrival_others n m.unit m.phase b h;
+}
 
 pub arrival_is : (n : ℕ) (m : Pending) → n < 8 → slot_of m ≡ 14 + n → (e : Arrival) × (arrival_at n m ≡ Some e)
-unfolding arrival_at slot_of
-arrival_is n m b h = arrival_is_in n m.unit m.phase b h
+arrival_is n m b h = (arrival_asked n b).here m h
 
 channel_slot : (units places channels : List (Option Pending)) (n : ℕ) (o : Option Pending) → length units ≡ 10
     → length places ≡ 4 → get_or channels n None ≡ o → get_or (slots units places channels) (14 + n) None ≡ o
@@ -608,60 +516,37 @@ channel_slot units places channels n o lu lp h =
     get_back units (places ++ channels) (4 + n) (14 + n) None (omega (arith, lu))
     ∙ get_back places channels n (4 + n) None (omega (arith, lp)) ∙ h
 
-channels_without : (units places channels : List (Option Pending)) (n : ℕ) → length units ≡ 10 → length places ≡ 4
-    → set (slots units places channels) (14 + n) None ≡ slots units places (set channels n None)
+channel_out : (units places channels : List (Option Pending)) (n : ℕ) (m : Pending) → IsRight units places channels
+    → get_or channels n None ≡ Some m → IsOut (slots units places channels) units places (set channels n None) (14 + n) m
 unfolding slots
-channels_without units places channels n lu lp =
-    set_back units (places ++ channels) (4 + n) (14 + n) None (omega (arith, lu))
-    ∙ ap (λ os. units ++ os) (set_back places channels n (4 + n) None (omega (arith, lp)))
+channel_out units places channels n m right h = record {
+  there = channel_slot units places channels n (Some m) right.all_units right.all_places h;
+  rest = set_back units (places ++ channels) (4 + n) (14 + n) None (omega (arith, right.all_units))
+      ∙ ap (λ os. units ++ os) (set_back places channels n (4 + n) None (omega (arith, right.all_places)));
+  all = all_slots units places channels right;
+  all_units = right.all_units;
+  all_places = right.all_places;
+  all_channels = length-set channels n None ∙ right.all_channels;
+}
 
-pub arrival_found : (units places channels : List (Option Pending)) (n : ℕ) (m : Pending)
-    → IsRight units places channels → n < 8 → get_or channels n None ≡ Some m
-    → (e : Arrival) × (arrival_at n m ≡ Some e)
-    × (seek (arrival_at n) (in_order (slots units places channels))
-    ≡ Some (record {
-      earlier = before_slot number_of (slots units places channels) (14 + n) m;
-      item = m;
-      answer = e;
-      later = after_slot number_of (slots units places channels) (14 + n) m;
-    }))
-arrival_found units places channels n m right b h =
-    let os : List (Option Pending) = slots units places channels in
-    let here : get_or os (14 + n) None ≡ Some m =
-    channel_slot units places channels n (Some m) right.all_units right.all_places h in
-    let q = arrival_is n m b (in_slots_here slot_of os 0 (14 + n) m here right.stands ∙ omega arith) in (
-      q.0,
-      q.1,
-      found_there number_of (arrival_at n) os (14 + n) m q.0 here right.own q.1
-          (each_map (λ y. slot_of y ≢ 14 + n) (λ y. arrival_at n y ≡ None) (λ y k. arrival_not n y b k)
-          (somes (set os (14 + n) None)) (in_slots_others slot_of os 0 (14 + n) (14 + n) (omega arith) right.stands)),
-    )
-
-pub arrival_nobody : (units places channels : List (Option Pending)) (n : ℕ) → IsRight units places channels → n < 8
+arrival_nobody : (units places channels : List (Option Pending)) (n : ℕ) → IsRight units places channels → n < 8
     → get_or channels n None ≡ None → seek (arrival_at n) (in_order (slots units places channels)) ≡ None
 arrival_nobody units places channels n right b h =
-    let os : List (Option Pending) = slots units places channels in
-    found_nobody number_of (arrival_at n) os
-    (each_map (λ y. slot_of y ≢ 14 + n) (λ y. arrival_at n y ≡ None) (λ y k. arrival_not n y b k) (somes os)
-    (in_slots_nobody slot_of os (14 + n)
-    (channel_slot units places channels n None right.all_units right.all_places h) right.stands))
+    asked_nobody slot_of number_of (arrival_at n) (slots units places channels) (14 + n) (arrival_asked n b)
+    (as_slots units places channels right)
+    (channel_slot units places channels n None right.all_units right.all_places h)
 
 arrival_far_in : (n : ℕ) (v : FunctionalUnit) (q : Phase) → 8 ≤ n → slot_in v q < 22 → arrival_in n q ≡ None
 unfolding arrival_in slot_in
 arrival_far_in n v (Before t) b h = refl
 arrival_far_in n v (After (Entered s a x)) b h = refl
-arrival_far_in n v (After (Accepted m w)) b h =
-    ap (λ t. cond t (Some (record { channel = m; word = w })) None) (ne_eqb m n (by_test (ltb m 8) refl h))
-  where
-    by_test : (t : Bool) → ltb m 8 ≡ t → cond t (14 + m) 22 < 22 → m ≢ n
-    by_test true e k = λ i. let l = ltb-true m 8 e in omega (arith, b, l, i)
-    by_test false e k = absurd (omega (arith, k))
+arrival_far_in n v (After (Accepted m w)) b h = grind arith
 
 arrival_far : (n : ℕ) (y : Pending) → 8 ≤ n → slot_of y < 22 → arrival_at n y ≡ None
 unfolding arrival_at slot_of
 arrival_far n y b h = arrival_far_in n y.unit y.phase b h
 
--- nobody waits in a channel that isn't there
+-- no load waits in a channel with a number above 7
 pub arrival_beyond : (units places channels : List (Option Pending)) (n : ℕ) → IsRight units places channels → 8 ≤ n
     → seek (arrival_at n) (in_order (slots units places channels)) ≡ None
 arrival_beyond units places channels n right b =
@@ -686,51 +571,44 @@ channel_below units places channels n m right h = let w = within channels n m h 
 pub arrival_answer : (units places channels : List (Option Pending)) (n : ℕ) (m : Pending) (x : Arrival)
     → IsRight units places channels → n < 8 → get_or channels n None ≡ Some m → arrival_at n m ≡ Some x
     → Some (record { pending = m; answer = x }) ≡ located (seek (arrival_at n) (in_order (slots units places channels)))
-unfolding located
 arrival_answer units places channels n m x right b h k =
-    let f = arrival_found units places channels n m right b h in
-    let q : Some x ≡ Some f.0 = sym k ∙ f.1 in
-    let xe : x ≡ f.0 = cc in
-    ap (λ z. Some (record { pending = m; answer = z })) xe ∙ ap located (sym f.2)
+    asked_answer (arrival_at n) (slots units places channels) (14 + n) m x (arrival_asked n b)
+    (as_slots units places channels right) (channel_out units places channels n m right h).there k
 
 pub arrival_must : (units places channels : List (Option Pending)) (n : ℕ) (m : Pending)
     → IsRight units places channels → n < 8 → get_or channels n None ≡ Some m → arrival_at n m ≡ None → ⊥
 arrival_must units places channels n m right b h k =
-    let f = arrival_found units places channels n m right b h in let q : None ≡ Some f.0 = sym k ∙ f.1 in cc
+    asked_must (arrival_at n) (slots units places channels) (14 + n) m (arrival_asked n b)
+    (as_slots units places channels right) (channel_out units places channels n m right h).there k
 
 pub returned_right : (units places channels : List (Option Pending)) (n : ℕ) (m : Pending)
     → IsRight units places channels → get_or channels n None ≡ Some m → IsRight units places (set channels n None)
-unfolding places_with channels_with
 returned_right units places channels n m right h =
-    moved_right (slots units places channels) units places (set channels n None) (14 + n) m None right.stands right.own
-    (all_slots units places channels right)
-    (channel_slot units places channels n (Some m) right.all_units right.all_places h)
-    (channels_without units places channels n right.all_units right.all_places) right.all_units right.all_places
-    (length-set channels n None ∙ right.all_channels) tt
+    moved_right _ _ places (set channels n None) _ _ (14 + n) m None (as_slots units places channels right)
+    (channel_out units places channels n m right h) tt (no_rest places (set channels n None) m)
 
 pub returned_view : (units places channels : List (Option Pending)) (n : ℕ) (m : Pending)
     → IsRight units places channels → n < 8 → get_or channels n None ≡ Some m
     → in_order (slots units places (set channels n None))
     ≡ replaced (seek (arrival_at n) (in_order (slots units places channels)))
     (in_order (slots units places channels)) (λ x. [])
-unfolding replaced put_back places_with channels_with kept
+unfolding kept
 returned_view units places channels n m right b h =
-    moved_order (slots units places channels) units places (set channels n None) (14 + n) m None right.stands right.own
-    (all_slots units places channels right)
-    (channel_slot units places channels n (Some m) right.all_units right.all_places h)
-    (channels_without units places channels n right.all_units right.all_places) right.all_units right.all_places tt
-    ∙ ap (λ o. replaced o (in_order (slots units places channels)) (λ x. []))
-    (sym (arrival_found units places channels n m right b h).2)
+    let o = channel_out units places channels n m right h in
+    let s = as_slots units places channels right in
+    asked_view slot_of number_of (arrival_at n) _ (14 + n) m (λ x. kept x None) _ (arrival_asked n b) s o.there
+    (moved_order _ _ places (set channels n None) _ _ (14 + n) m None s o tt
+    (no_rest places (set channels n None) m))
 
 pub nobody_returned : (g : Pending → List Pending) (units places channels : List (Option Pending)) (n : ℕ)
     → IsRight units places channels → n < 8 → get_or channels n None ≡ None
     → in_order (slots units places channels)
     ≡ replaced (seek (arrival_at n) (in_order (slots units places channels)))
     (in_order (slots units places channels)) g
-unfolding replaced
 nobody_returned g units places channels n right b h =
-    ap (λ o. replaced o (in_order (slots units places channels)) g)
-    (sym (arrival_nobody units places channels n right b h))
+    nobody_view slot_of number_of (arrival_at n) (slots units places channels) (14 + n) g (arrival_asked n b)
+    (as_slots units places channels right)
+    (channel_slot units places channels n None right.all_units right.all_places h)
 
 -- ---- a new one ----
 
@@ -741,10 +619,10 @@ slot_free units places channels u i right e h = by_slot (get_or units i None) re
   where
     by_slot : (o : Option Pending) → get_or units i None ≡ o → o ≡ None
     by_slot None k = refl
-    by_slot (Some m) k = let p = stage_found units places channels u i m right e k in absurd (some_none (sym h ∙ p.3))
-      where
-        some_none : {K : Type 0} {x : K} → None ≡ Some x → ⊥
-        some_none q = cc
+    by_slot (Some m) k =
+        let f = asked_found slot_of number_of (stage_at u) (slots units places channels) i m (stage_asked u i e)
+        (as_slots units places channels right) (unit_slot units places channels i (Some m) (within units i m k) k) in
+        let q : None ≡ Some _ = sym h ∙ f.2 in cc
 
 new_stands : (m : Pending) (t : Stage) → m.phase ≡ Before t → slot_of m ≡ unit_number m.unit
 unfolding slot_of slot_in

@@ -1,6 +1,6 @@
 -- Pending instructions in slots, and the list that the slots represent. Source: ours.
 use Rattle.std.specs.Prelude.{◌≡◌, ◌≢◌, ◌<◌, ◌+◌, ℕ, Bool, true, false, nat_lt, if◌then◌else◌, List, [], ◌∷◌, ◌++◌}
-use Rattle.std.specs.Prelude.{Option, Some, None, length}
+use Rattle.std.specs.Prelude.{Option, Some, None, length, set}
 use Rattle.instructions.specs.declared.instr.Unit.{Unit as FunctionalUnit}
 use Rattle.scoreboard.specs.Units.{unit_number}
 use Rattle.instructions.specs.Each.{Each, Pairs}
@@ -10,6 +10,7 @@ use Rattle.in_flight.specs.declared.pending.Outstanding.TheVariants.{Entered, Ac
 use Rattle.in_flight.specs.declared.pending.Phase.{Phase}
 use Rattle.in_flight.specs.declared.pending.Phase.TheVariants.{Before, After}
 use Rattle.in_flight.specs.declared.pending.Pending.{Pending}
+use Rattle.in_flight.specs.Lookup.{in_phase}
 
 -- the number of the instruction's reservation
 unfoldable pub number_of : Pending → ℕ
@@ -52,6 +53,24 @@ abbrev pub HasRoom : Option Outstanding → List Pending → Type 0
 HasRoom None ms = Unit {0}
 HasRoom (Some (Entered place a access)) ms = (place < 4) × AreElsewhere (10 + place) ms
 HasRoom (Some (Accepted n word)) ms = (n < 8) × AreElsewhere (14 + n) ms
+
+-- the place or the channel of the rest is one of so many
+abbrev pub IsWithin : ℕ → ℕ → Outstanding → Type 0
+IsWithin places channels (Entered place a access) = place < places
+IsWithin places channels (Accepted n word) = n < channels
+
+-- the hopper's places after an instruction with this rest, if there is one, has moved into its place
+unfoldable pub places_with : List (Option Pending) → Pending → Option Outstanding → List (Option Pending)
+places_with places m None = places
+places_with places m (Some (Entered place a access)) =
+    set places place (Some (in_phase m (After (Entered place a access))))
+places_with places m (Some (Accepted n word)) = places
+
+-- the channels after a load with this rest, if there is one, has moved into its channel
+unfoldable pub channels_with : List (Option Pending) → Pending → Option Outstanding → List (Option Pending)
+channels_with channels m None = channels
+channels_with channels m (Some (Entered place a access)) = channels
+channels_with channels m (Some (Accepted n word)) = set channels n (Some (in_phase m (After (Accepted n word))))
 
 -- nothing is pending
 unfoldable pub has_none : List Pending → Bool

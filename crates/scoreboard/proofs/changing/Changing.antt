@@ -1,4 +1,4 @@
--- What a board stands for after each change.
+-- The list that a board represents after each change.
 use Rattle.std.proofs.Common.{◌≡◌, ◌<◌, ◌+◌, ℕ, Bool, true, List, ◌++◌, Option, Some, None, refl, sym, ap, ◌∙◌, get_or}
 use Rattle.std.proofs.Common.{set, length, arith}
 use Rattle.std.specs.Prelude.{IfSome}

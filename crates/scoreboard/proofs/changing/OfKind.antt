@@ -1,6 +1,6 @@
--- Which units take branches, references and stores: a test of all is a test of their slots.
-use Rattle.std.proofs.Common.{◌≡◌, ◌≢◌, ℕ, zero, suc, Bool, true, false, cond, List, [], ◌∷◌, ◌++◌, Option, Some, None}
-use Rattle.std.proofs.Common.{refl, sym, ap, ◌∙◌, eqb, leb, ltb, length, get_or, set, arith}
+-- The units for branches, references and stores: a test of all instructions is a test of these units' slots.
+use Rattle.std.proofs.Common.{eqb, ◌≡◌, ◌≢◌, ℕ, zero, suc, Bool, true, false, List, [], ◌∷◌, ◌++◌, Option, Some, None}
+use Rattle.std.proofs.Common.{refl, sym, ap, ◌∙◌, ltb, length, get_or, set, arith}
 use Rattle.std.specs.Prelude.{not, ◌&&◌, ◌||◌, is_some}
 use Rattle.std.specs.List.{list_any}
 use Rattle.std.proofs.lemmas.Bool.{eq-eqb, eqb-true, eqb-false, and_right}
@@ -21,7 +21,6 @@ use Rattle.instructions.specs.declared.instr.Instr.TheVariants.{LongAdd as LongS
 use Rattle.instructions.specs.declared.instr.Logic.{Logic}
 use Rattle.instructions.specs.declared.instr.Logic.TheVariants.{And, Or, Xor, AndNot, OrNot, XorNot}
 use Rattle.instructions.specs.declared.instr.Pair.TheVariants.{XPlusB, APlusB, AMinusB, BPlusB, BMinusB}
-use Rattle.instructions.specs.declared.instr.Reg.TheVariants.{A}
 use Rattle.instructions.specs.declared.instr.Target.{Target}
 use Rattle.instructions.specs.declared.instr.Target.TheVariants.{A as TargetA, B as TargetB, X as TargetX}
 use Rattle.instructions.specs.declared.instr.Unit.{Unit as FunctionalUnit}
@@ -39,7 +38,7 @@ use Rattle.instructions.specs.declared.shape.MemoryUse.{MemoryUse}
 use Rattle.instructions.specs.Each.{Each}
 use Rattle.instructions.specs.Finding.{seek}
 use Rattle.instructions.specs.Order.{sort_by, somes, IsInSlots}
-use Rattle.instructions.specs.Shape.{Shape, Sets, Loads, Stores, shape_of, is_branch_shape, memory_of, has_reference}
+use Rattle.instructions.specs.Shape.{Shape, shape_of, is_branch_shape, memory_of, has_reference}
 use Rattle.instructions.specs.Shape.{has_store}
 use Rattle.instructions.specs.Operands.{uses}
 use Rattle.instructions.proofs.Lists.{each_map, each_both, or_false, any_same}
@@ -47,8 +46,6 @@ use Rattle.instructions.proofs.MemoryUses.{reference_used}
 use Rattle.instructions.proofs.Slots.{in_slots_others, in_slots_empty, found_there}
 use Rattle.instructions.proofs.Sorted.{any_sort}
 use Rattle.scoreboard.specs.declared.issued.Issued.{Issued}
-use Rattle.scoreboard.specs.declared.reservation.Occupancy.{Occupancy}
-use Rattle.scoreboard.specs.declared.reservation.Occupancy.TheVariants.{Reserved, Left}
 use Rattle.scoreboard.specs.declared.writer.Writer.{Writer}
 use Rattle.scoreboard.specs.declared.writers.Writers.{Writers}
 use Rattle.scoreboard.specs.Answers.{held_in, unless, turn_answer}
@@ -64,7 +61,7 @@ use Rattle.scoreboard.proofs.in_slots.Standing.{units_any, none_any, unit_slot, 
 
 -- ---- the kind of unit that an instruction takes, by its name ----
 
--- Branch takes the branches, whatever they test
+-- every conditional branch on an X register takes Branch
 branch_x_unit : (test : XTest) (j K : ℕ) → (uses (BranchX test j K)).unit ≡ Some BranchKind
 branch_x_unit Zero j K = refl
 branch_x_unit NonZero j K = refl
@@ -180,19 +177,7 @@ of_kind : (o : Option UnitKind) (k : UnitKind) (u : FunctionalUnit) → o ≡ So
     → may_take (Some k) u ≡ true
 of_kind o k u e h = sym (ap (λ p. may_take p u) e) ∙ h
 
-increment_no_branch : (target : Target) (i : ℕ) (a : Addends)
-    → is_branch_shape (shape_of (Increment target i a)) ≡ false
-unfolding shape_of is_branch_shape
-increment_no_branch TargetA i a = by_tests (eqb i 0) (leb i 5)
-  where
-    by_tests : (p q : Bool) → is_branch_shape (cond p (Sets (A 0 ∷ [])) (cond q (Loads i) (Stores i))) ≡ false
-    by_tests true q = refl
-    by_tests false true = refl
-    by_tests false false = refl
-increment_no_branch TargetB i a = refl
-increment_no_branch TargetX i a = refl
-
--- an instruction in Branch is a branch, and no other is
+-- an instruction in Branch is a branch, and no other instruction is
 branch_there : (i : Instr) (u : FunctionalUnit) → may_take (uses i).unit u ≡ true
     → same_unit u Branch ≡ is_branch_shape (shape_of i)
 unfolding may_take units_of same_unit shape_of is_branch_shape
@@ -216,11 +201,9 @@ branch_there (LongSum o i j k) u h =
     not_branch LongAddKind u (of_kind (uses (LongSum o i j k)).unit LongAddKind u (long_unit o i j k) h) refl
 branch_there (Mask i jk) u h = not_branch ShiftKind u h refl
 branch_there (CountOnes i k) u h = not_branch DivideKind u h refl
-branch_there (Increment t i a) u h =
-    not_branch IncrementKind u (of_kind (uses (Increment t i a)).unit IncrementKind u (increment_unit t i a) h) refl
-    ∙ sym (increment_no_branch t i a)
+branch_there (Increment t i a) u h = grind arith
 
--- outside Branch and the Increment units nothing makes a reference
+-- outside Branch and the Increment units no instruction makes a reference
 no_reference : (i : Instr) (u : FunctionalUnit) → may_take (uses i).unit u ≡ true → unit_number u ≢ unit_number Branch
     → unit_number u ≢ unit_number Increment1 → unit_number u ≢ unit_number Increment2
     → has_reference (shape_of i) ≡ false
@@ -239,13 +222,11 @@ no_reference (ShiftNominal d i j k) u h a b c = refl
 no_reference (LongSum o i j k) u h a b c = refl
 no_reference (Mask i jk) u h a b c = refl
 no_reference (CountOnes i k) u h a b c = refl
-no_reference (Increment TargetA i a) u h z b c =
-    absurd (increment_slot u (of_kind (uses (Increment TargetA i a)).unit IncrementKind u (increment_unit TargetA i a)
-    h) b c)
+no_reference (Increment TargetA i a) u h z b c = grind (arith, increment_slot, of_kind, increment_unit)
 no_reference (Increment TargetB i a) u h z b c = refl
 no_reference (Increment TargetX i a) u h z b c = refl
 
--- outside the Increment units nothing but RJ stores
+-- outside the Increment units only RJ stores
 no_store : (i : Instr) (u : FunctionalUnit) → may_take (uses i).unit u ≡ true → unit_number u ≢ unit_number Increment1
     → unit_number u ≢ unit_number Increment2 → (has_store (shape_of i) && not (is_branch_shape (shape_of i))) ≡ false
 unfolding shape_of has_store is_branch_shape
@@ -263,9 +244,7 @@ no_store (ShiftNominal d i j k) u h b c = refl
 no_store (LongSum o i j k) u h b c = refl
 no_store (Mask i jk) u h b c = refl
 no_store (CountOnes i k) u h b c = refl
-no_store (Increment TargetA i a) u h b c =
-    absurd (increment_slot u (of_kind (uses (Increment TargetA i a)).unit IncrementKind u (increment_unit TargetA i a)
-    h) b c)
+no_store (Increment TargetA i a) u h b c = grind (arith, increment_slot, of_kind, increment_unit)
 no_store (Increment TargetB i a) u h b c = refl
 no_store (Increment TargetX i a) u h b c = refl
 
@@ -279,41 +258,21 @@ and_swap false false = refl
 
 branch_holds : (y : Issued) → IsOfKind y → holds Branch y.reservation ≡ is_branch y.reservation
 unfolding holds is_branch
-branch_holds y h =
-    ap (λ b. b && is_reserved y.reservation.occupancy) (branch_there y.reservation.instr y.reservation.unit h)
-    ∙ and_swap (is_branch_shape (shape_of y.reservation.instr)) (is_reserved y.reservation.occupancy)
+branch_holds y h = grind (arith, branch_there, and_swap)
 
 turn_silent : (y : Issued) → IsOfKind y → slot_of y ≢ unit_number Branch → slot_of y ≢ unit_number Increment1
     → slot_of y ≢ unit_number Increment2 → has_turn y.reservation ≡ false
 unfolding has_turn slot_of slot_in is_reserved
-turn_silent y h = by_occupancy y.reservation.occupancy
-  where
-    by_occupancy : (p : Occupancy) → slot_in y.reservation.unit p ≢ unit_number Branch
-        → slot_in y.reservation.unit p ≢ unit_number Increment1 → slot_in y.reservation.unit p ≢ unit_number Increment2
-        → (is_reserved p && has_reference (shape_of y.reservation.instr)) ≡ false
-    by_occupancy (Reserved has_read) a b c = no_reference y.reservation.instr y.reservation.unit h a b c
-    by_occupancy (Left o) a b c = refl
+turn_silent y h = grind (arith, no_reference)
 
 store_silent : (y : Issued) → IsOfKind y → slot_of y ≢ unit_number Increment1 → slot_of y ≢ unit_number Increment2
     → has_store_turn y.reservation ≡ false
 unfolding has_store_turn slot_of slot_in is_reserved
-store_silent y h = by_occupancy y.reservation.occupancy
-  where
-    by_occupancy : (p : Occupancy) → slot_in y.reservation.unit p ≢ unit_number Increment1
-        → slot_in y.reservation.unit p ≢ unit_number Increment2
-        → ((is_reserved p && has_store (shape_of y.reservation.instr)) && not (is_branch_shape (shape_of
-        y.reservation.instr))) ≡ false
-    by_occupancy (Reserved has_read) b c = no_store y.reservation.instr y.reservation.unit h b c
-    by_occupancy (Left o) b c = refl
+store_silent y h = grind (arith, no_store)
 
 -- ---- a test of all is a test of some slots ----
 
-swap_or : (a b c : Bool) → (a || (b || c)) ≡ (b || (a || c))
-swap_or true true c = refl
-swap_or true false c = refl
-swap_or false b c = refl
-
--- one slot, and the others
+-- a test over one slot and the others
 any_out : (t : Issued → Bool) (g : Option Issued → Bool) → g None ≡ false → ((x : Issued) → g (Some x) ≡ t x)
     → (os : List (Option Issued)) (i : ℕ)
     → list_any t (somes os) ≡ (g (get_or os i None) || list_any t (somes (set os i None)))
@@ -322,9 +281,7 @@ any_out t g none some [] i = sym (ap (λ b. b || false) none)
 any_out t g none some (None ∷ os) zero = sym (ap (λ b. b || list_any t (somes os)) none)
 any_out t g none some (Some x ∷ os) zero = sym (ap (λ b. b || list_any t (somes os)) (some x))
 any_out t g none some (None ∷ os) (suc i) = any_out t g none some os i
-any_out t g none some (Some x ∷ os) (suc i) =
-    ap (λ b. t x || b) (any_out t g none some os i)
-    ∙ swap_or (t x) (g (get_or os i None)) (list_any t (somes (set os i None)))
+any_out t g none some (Some x ∷ os) (suc i) = grind (arith, any_out t g none some os i)
 
 each_out : (P : Issued → Type 0) (os : List (Option Issued)) (i : ℕ) → Each P (somes os)
     → Each P (somes (set os i None))
@@ -340,7 +297,7 @@ emptied [] i = refl
 emptied (o ∷ os) zero = refl
 emptied (o ∷ os) (suc i) = emptied os i
 
--- whether that one is emptied doesn't count for the others
+-- emptying that slot doesn't change a test of the others
 others_kept : (g : Option Issued → Bool) → g None ≡ false → (os : List (Option Issued)) (i : ℕ) (slots : List ℕ)
     → (g (get_or os i None) || list_any (λ j. g (get_or (set os i None) j None)) slots)
     ≡ (g (get_or os i None) || list_any (λ j. g (get_or os j None)) slots)
@@ -360,7 +317,7 @@ others_kept g none os i slots = by_test (g (get_or os i None)) refl
     by_test false e = any_same (λ j. g (get_or (set os i None) j None)) (λ j. g (get_or os j None))
         (λ j. same_at e j (eqb j i) refl) slots
 
--- the slots outside which the test fails
+-- a test that fails outside some slots
 slots_any : (t : Issued → Bool) (g : Option Issued → Bool) → g None ≡ false → ((x : Issued) → g (Some x) ≡ t x)
     → (slots : List ℕ) (P : Issued → Type 0) (os : List (Option Issued)) → IsInSlots slot_of 0 os → Each P (somes os)
     → ((y : Issued) → P y → Each (λ i. slot_of y ≢ i) slots → t y ≡ false)
@@ -387,12 +344,7 @@ in_increments : (t : Issued → Bool) (g : Option Issued → Bool) → g None �
     → (units channels : List (Option Issued)) → length units ≡ 10
     → (list_any (λ i. g (get_or (units ++ channels) i None)) (unit_number Increment1 ∷ unit_number Increment2 ∷ []))
     ≡ in_increment g units
-in_increments t g none some units channels l =
-    ap (λ b. g (get_or (units ++ channels) (unit_number Increment1) None) || b)
-    (or_false (g (get_or (units ++ channels) (unit_number Increment2) None)))
-    ∙ ap (λ o. g o || g (get_or (units ++ channels) (unit_number Increment2) None))
-    (slot_same units channels Increment1 l)
-    ∙ ap (λ o. g (slot_at units Increment1) || g o) (slot_same units channels Increment2 l)
+in_increments t g none some units channels l = simp (or_false, slot_same)
 
 each_of_same : (f g : Issued → Bool) (P : Issued → Type 0) → ((y : Issued) → P y → f y ≡ g y) → (ys : List Issued)
     → Each P ys → list_any f ys ≡ list_any g ys
@@ -400,7 +352,7 @@ each_of_same f g P h [] p = refl
 each_of_same f g P h (y ∷ ys) p =
     ap (λ b. b || list_any f ys) (h y p.0) ∙ ap (λ b. g y || b) (each_of_same f g P h ys p.1)
 
--- a branch is issued where Branch is taken
+-- a branch is pending exactly if Branch is held
 pub branch_found : (units channels : List (Option Issued)) (producers : List (List (Option Writer))) (ws : Writers)
     (last : ℕ) → IsRight units channels producers ws last
     → is_taken units Branch ≡ list_any (λ y. is_branch y.reservation) (sort_by number_of (in_slots units channels))
@@ -413,7 +365,7 @@ branch_found units channels producers ws last right =
     right.kinds
     ∙ sym (any_sort number_of (λ y. is_branch y.reservation) (somes (units ++ channels)))
 
--- an SA6 or SA7 is in an Increment unit
+-- a pending SA6 or SA7 is in an Increment unit
 pub store_found : (units channels : List (Option Issued)) (producers : List (List (Option Writer))) (ws : Writers)
     (last : ℕ) → IsRight units channels producers ws last
     → in_increment (slot_is has_store_turn) units
@@ -426,7 +378,7 @@ store_found units channels producers ws last right =
     IsOfKind (units ++ channels) right.stands right.kinds (λ y k l. store_silent y k l.0 l.1.0)
     ∙ in_increments t (slot_is has_store_turn) refl (λ y. refl) units channels right.all_units)
 
--- a reference is in Branch or in an Increment unit
+-- an instruction with a reference to make is in Branch or in an Increment unit
 pub reference_found : (units channels : List (Option Issued)) (producers : List (List (Option Writer))) (ws : Writers)
     (last : ℕ) → IsRight units channels producers ws last
     → (slot_is has_turn (slot_at units Branch) || in_increment (slot_is has_turn) units)
@@ -444,18 +396,15 @@ reference_found units channels producers ws last right =
     ∙ ap (λ b. slot_is has_turn (slot_at units Branch) || b)
     (in_increments t (slot_is has_turn) refl (λ y. refl) units channels right.all_units))
 
--- a unit with a lower number has one where an earlier instruction has one
+-- an earlier instruction has a reference to make exactly if some reservation with a lower number has
 turn_found : (n : ℕ) (units channels : List (Option Issued)) → length units ≡ 10
     → IsInSlots slot_of 0 (units ++ channels)
     → list_any (slot_has_turn n) units
     ≡ list_any (λ y. ltb y.number n && has_turn y.reservation) (somes (units ++ channels))
 unfolding slot_has_turn has_turn
-turn_found n units channels l s =
-    units_any (λ y. ltb y.number n && has_turn y.reservation) (slot_has_turn n) refl (λ y. refl)
-    (λ y k. ap (λ b. ltb y.number n && (b && has_reference (shape_of y.reservation.instr))) k
-    ∙ and_right (ltb y.number n) false refl) units channels l s
+turn_found n units channels l s = grind (arith, units_any, and_right)
 
--- an instruction makes a reference where it uses memory
+-- an instruction makes a reference exactly if it uses memory
 pub used_refers : (s : Shape) (o : Option MemoryUse) (b c : Bool) → o ≡ memory_of s → is_some o ≡ not b → b ≡ c
     → has_reference s ≡ not c
 used_refers s o b c e n k = sym (reference_used s) ∙ ap is_some (sym e) ∙ n ∙ ap not k

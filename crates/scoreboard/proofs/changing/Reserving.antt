@@ -1,7 +1,7 @@
--- A unit is reserved: who writes which register then, and what the board stands for.
+-- Reserving a unit: the writer of each register, and the board's list.
 use Rattle.std.proofs.Common.{◌≡◌, ◌<◌, ◌≤◌, ℕ, zero, suc, Bool, true, false, cond, List, [], ◌∷◌, ◌++◌, Option, Some}
 use Rattle.std.proofs.Common.{None, refl, sym, ap, ◌∙◌, subst, eqb, get_or, set, length, arith}
-use Rattle.std.specs.Prelude.{is_some, ◌&&◌, ◌||◌, IfSome, unwrap_or, find, Result, Ok, Err, option_to_list}
+use Rattle.std.specs.Prelude.{is_some, ◌&&◌, ◌||◌, IfSome, find, Result, Ok, Err, option_to_list}
 use Rattle.std.specs.List.{list_any}
 use Rattle.std.proofs.lemmas.Bool.{eq-eqb, eqb-true, eqb-false, le-ltb, lt-ltb, or_parts}
 use Rattle.std.proofs.lemmas.List.{length-set, length-append, set-append_left, get_or_append_left, get_or-set_same}
@@ -17,7 +17,7 @@ use Rattle.instructions.specs.declared.refusal.Refusal.TheVariants.{UnitBusy, Re
 use Rattle.instructions.specs.RegisterLists.{is_in}
 use Rattle.instructions.specs.Shape.{shape_of, sets_of, results}
 use Rattle.instructions.specs.Operands.{uses, sources_of, reg_eq}
-use Rattle.scoreboard.specs.Conflicts.{awaited, is_held, first_free, free_unit, unit_for, first_such}
+use Rattle.scoreboard.specs.Conflicts.{first_such, awaited, is_held, first_free, free_unit, unit_for}
 use Rattle.scoreboard.specs.Reservations.{comes, to_come, to_come_in, holds}
 use Rattle.scoreboard.specs.Units.{unit_number, same_unit, units_of, may_take, first_unit}
 use Rattle.scoreboard.specs.declared.issued.Issued.{Issued}
@@ -31,7 +31,7 @@ use Rattle.scoreboard.specs.Issued.{reservation_of, number_of, channel_of, writt
 use Rattle.scoreboard.specs.Issued.{or_else}
 use Rattle.scoreboard.specs.Issued.{first_some, if_earlier, writer_of, writer_before}
 use Rattle.instructions.specs.Order.{sort_by, somes, IsInSlots}
-use Rattle.scoreboard.proofs.in_slots.Small.{first_produced}
+use Rattle.scoreboard.specs.inner.Fields.{first_produced}
 use Rattle.scoreboard.specs.inner.View.{standing_of, in_slots, slot_in, slot_of, IsOther, IsOfKind, AreProducers}
 use Rattle.scoreboard.specs.inner.View.{IsRight}
 use Rattle.scoreboard.specs.Writers.{IsRegister, writer_at, set_writer, set_each}
@@ -46,7 +46,7 @@ use Rattle.scoreboard.proofs.changing.Right.{right_again, producers_same}
 
 -- ---- the registers' writers ----
 
--- the writers after an issue: the unit for the registers that its store event writes, the load's channel for its X
+-- the writers after an issue: the unit for the registers that its store event writes, and the load's channel for its X
 -- register
 unfoldable pub writers_with : Writers → FunctionalUnit → List Reg → Option ℕ → Writers
 writers_with ws unit rs None = set_each ws rs (Some (OfUnit unit))
@@ -56,45 +56,24 @@ with_sized : (ws : Writers) (u : FunctionalUnit) (rs : List Reg) (c : Option ℕ
     → AreSized (writers_with ws u rs c)
 unfolding writers_with
 with_sized ws u rs None l = each_sized rs ws (Some (OfUnit u)) l
-with_sized ws u rs (Some n) l =
-    each_sized rs (set_writer ws (X n) (Some (OfChannel n))) (Some (OfUnit u))
-    (set_sized ws (X n) (Some (OfChannel n)) l)
+with_sized ws u rs (Some n) l = search (arith, each_sized, set_sized)
 
 with_gives : (ws : Writers) (u : FunctionalUnit) (rs : List Reg) (c : Option ℕ) (r : Reg) → AreSized ws
     → Each IsRegister rs → IfSome c (λ n. n < 8)
     → writer_at (writers_with ws u rs c) r
     ≡ or_else (cond (is_in rs r) (Some (OfUnit u)) (written_by_channel r c)) (writer_at ws r)
 unfolding writers_with or_else written_by_channel
-with_gives ws u rs None r l v b = each_gives rs ws r (Some (OfUnit u)) l v ∙ by_test (is_in rs r)
-  where
-    by_test : (t : Bool) → cond t (Some (OfUnit u)) (writer_at ws r)
-        ≡ or_else (cond t (Some (OfUnit u)) None) (writer_at ws r)
-    by_test true = refl
-    by_test false = refl
-with_gives ws u rs (Some n) r l v b =
-    each_gives rs (set_writer ws (X n) (Some (OfChannel n))) r (Some (OfUnit u))
-    (set_sized ws (X n) (Some (OfChannel n)) l) v
-    ∙ ap (λ q. cond (is_in rs r) (Some (OfUnit u)) q) (set_gives ws (X n) r (Some (OfChannel n)) l b)
-    ∙ by_tests (is_in rs r) (reg_eq r (X n))
-  where
-    by_tests : (p q : Bool) → cond p (Some (OfUnit u)) (cond q (Some (OfChannel n)) (writer_at ws r))
-        ≡ or_else (cond p (Some (OfUnit u)) (cond q (Some (OfChannel n)) None)) (writer_at ws r)
-    by_tests true q = refl
-    by_tests false true = refl
-    by_tests false false = refl
+with_gives ws u rs None r l v b = grind (arith, each_gives)
+with_gives ws u rs (Some n) r l v b = grind (arith, each_gives, set_sized, set_gives)
 
 -- ---- First order ----
 
--- somebody is to write a register where it is a result still to come
+-- a register has a writer exactly if it is a result still to come
 pub awaited_field : (units channels : List (Option Issued)) (producers : List (List (Option Writer))) (ws : Writers)
     (last : ℕ) → IsRight units channels producers ws last → (r : Reg) → IsRegister r
     → is_some (writer_at ws r) ≡ awaited reservation_of (sort_by number_of (in_slots units channels)) r
 unfolding in_slots awaited reservation_of writer_of
-awaited_field units channels producers ws last right r v =
-    ap is_some (right.written r v)
-    ∙ some_any (written_by r) (somes (units ++ channels))
-    ∙ any_same (λ y. is_some (written_by r y)) (λ y. comes r y.reservation) (some_written r) (somes (units ++ channels))
-    ∙ sym (any_sort number_of (λ y. comes r y.reservation) (somes (units ++ channels)))
+awaited_field units channels producers ws last right r v = grind (arith, some_any, any_same, some_written, any_sort)
 
 find_valid : (f g : Reg → Bool) → ((r : Reg) → IsRegister r → f r ≡ g r) → (rs : List Reg) → Each IsRegister rs
     → find f rs ≡ find g rs
@@ -112,7 +91,7 @@ first_awaited units channels producers ws last rs ps o right h v e =
     ∙ find_valid (λ r. is_some (writer_at ws r)) (awaited reservation_of (sort_by number_of (in_slots units channels)))
     (λ r k. awaited_field units channels producers ws last right r k) rs v
 
--- where none meets the test, each fails it
+-- if no register is found, each fails the test
 found_none : (test : Reg → Bool) (rs : List Reg) → find test rs ≡ None → (r : Reg) → is_in rs r ≡ true → test r ≡ false
 unfolding is_in
 found_none test [] h r k = cc
@@ -137,10 +116,7 @@ pub fresh : (units channels : List (Option Issued)) (i : Instr) (u : FunctionalU
     → comes r (new_issued i u n).reservation ≡ true → list_any (λ z. comes r z.reservation) (somes (units ++ channels))
     ≡ false
 unfolding in_slots awaited reservation_of
-fresh units channels i u n h r k =
-    sym (any_sort number_of (λ z. comes r z.reservation) (somes (units ++ channels)))
-    ∙ found_none (awaited reservation_of (sort_by number_of (in_slots units channels))) (results (shape_of i)) h r
-    (sym (new_comes r i u n) ∙ k)
+fresh units channels i u n h r k = grind (arith, any_sort, found_none, new_comes)
 
 -- ---- the unit ----
 
@@ -156,7 +132,7 @@ any_here t os i x h e =
     ∙ ap (λ b. list_any t (before_place os i) || (b || list_any t (after_place os i))) e
     ∙ or_true (list_any t (before_place os i))
 
--- a unit is held where its slot is taken
+-- a unit is held exactly if its slot is filled
 pub held_taken : (units channels : List (Option Issued)) (producers : List (List (Option Writer))) (ws : Writers)
     (last : ℕ) → IsRight units channels producers ws last → (u : FunctionalUnit)
     → is_taken units u ≡ is_held reservation_of (sort_by number_of (in_slots units channels)) u
@@ -186,26 +162,19 @@ pub free_same : (units channels : List (Option Issued)) (producers : List (List 
     → free_for (is_taken units) k ≡ unit_for reservation_of (sort_by number_of (in_slots units channels)) k
 unfolding free_for unit_for free_unit
 free_same units channels producers ws last right None = refl
-free_same units channels producers ws last right (Some k) =
-    first_free_same (is_taken units) (is_held reservation_of (sort_by number_of (in_slots units channels)))
-    (held_taken units channels producers ws last right) (units_of k)
+free_same units channels producers ws last right (Some k) = search (arith, first_free_same, held_taken)
 
 first_is_free : (f : FunctionalUnit → Bool) (us : List FunctionalUnit) (u : FunctionalUnit) → first_free f us ≡ Some u
     → f u ≡ false
 unfolding first_free
 first_is_free f [] u h = cc
-first_is_free f (v ∷ us) u h = by_test (first_is_free f us u) (f v) refl h
-  where
-    by_test : (first_free f us ≡ Some u → f u ≡ false) → (b : Bool) → f v ≡ b
-        → cond b (first_free f us) (Some v) ≡ Some u → f u ≡ false
-    by_test rest true e k = rest k
-    by_test rest false e k = let q : v ≡ u = cc in ap f (sym q) ∙ e
+first_is_free f (v ∷ us) u h = grind (arith, first_is_free f us u)
 
 none_there : {K : Type 0} (o : Option K) → is_some o ≡ false → o ≡ None
 none_there None h = refl
 none_there (Some x) h = cc
 
--- it is one of them
+-- the first free unit is one of the list
 first_is_one : (f : FunctionalUnit → Bool) (us : List FunctionalUnit) (u : FunctionalUnit) → first_free f us ≡ Some u
     → list_any (same_unit u) us ≡ true
 unfolding first_free same_unit
@@ -244,27 +213,19 @@ pub taken_answer : (s : Standing) (i : Instr) (o : Option FunctionalUnit) (u : F
     (r : Reg) → o ≡ Some u → q ≡ find (awaited reservation_of s.issued) (results (shape_of i)) → q ≡ Some r
     → Err (ResultReserved r) ≡ reserve_answer s i o
 unfolding reserve_answer
-taken_answer s i o u q r e f g =
-    let t : find (awaited reservation_of s.issued) (results (shape_of i)) ≡ Some r = sym f ∙ g in
-    ap (λ z. Err (ResultReserved (unwrap_or z (B 0)))) (sym t)
-    ∙ sym (ap (λ b. cond b (Err (ResultReserved (first_such (awaited reservation_of s.issued) (results (shape_of i)))))
-    (Ok (u, suc s.last))) (any_find (awaited reservation_of s.issued) (results (shape_of i)) ∙ ap is_some t))
-    ∙ ap (reserve_answer s i) (sym e)
+taken_answer s i o u q r e f g = grind (arith, any_find)
 
 pub reserved_answer : (s : Standing) (i : Instr) (o : Option FunctionalUnit) (u : FunctionalUnit) (n : ℕ) → o ≡ Some u
     → find (awaited reservation_of s.issued) (results (shape_of i)) ≡ None → n ≡ suc s.last
     → Ok (u, n) ≡ reserve_answer s i o
 unfolding reserve_answer
-reserved_answer s i o u n e t k =
-    ap (λ m. Ok (u, m)) k
-    ∙ sym (ap (λ b. cond b (Err (ResultReserved (first_such (awaited reservation_of s.issued) (results (shape_of i)))))
-    (Ok (u, suc s.last))) (any_find (awaited reservation_of s.issued) (results (shape_of i)) ∙ ap is_some t))
-    ∙ ap (reserve_answer s i) (sym e)
+reserved_answer s i o u n e t k = grind (arith, any_find)
 
 same_reservation : (p q : FunctionalUnit × ℕ) (r : Result (FunctionalUnit × ℕ) Refusal) → r ≡ Ok p → r ≡ Ok q → p ≡ q
 same_reservation p q r h k = cc
 
--- an allowed reservation takes the free unit of the kind and the next number, and none of the results is still to come
+-- an allowed reservation takes the free unit of the kind and the next number, and no other instruction is still to
+-- write its results
 pub reservable : (s : Standing) (i : Instr) (o : Option FunctionalUnit) (u : FunctionalUnit) (n : ℕ)
     → reserve_answer s i o ≡ Ok (u, n)
     → (o ≡ Some u) × (n ≡ suc s.last) × (find (awaited reservation_of s.issued) (results (shape_of i)) ≡ None)
@@ -495,7 +456,7 @@ writer_none ws (X n) h k l = none_at ws.x n h
 writer_none ws (A n) h k l = none_at ws.a n k
 writer_none ws (B n) h k l = none_at ws.b n l
 
--- nothing is reserved
+-- a refused reservation changes nothing
 pub none_right : (units channels : List (Option Issued)) (producers : List (List (Option Writer))) (ws : Writers)
     → AreNone units → AreNone channels → AreNone ws.x → AreNone ws.a → AreNone ws.b → length units ≡ 10
     → length channels ≡ 8 → length producers ≡ 10 → AreSized ws → IsRight units channels producers ws 0
@@ -513,9 +474,7 @@ none_right units channels producers ws hu hc hx ha hb lu lc lp lw =
 pub none_view : (units channels : List (Option Issued)) → AreNone units → AreNone channels
     → standing_of units channels 0 ≡ record { issued = []; last = 0 }
 unfolding in_slots sort_by
-none_view units channels hu hc =
-    ap (λ l. record { issued = sort_by number_of l; last = 0 })
-    (no_somes (units ++ channels) (none_join units channels hu hc))
+none_view units channels hu hc = simp (no_somes, none_join)
 
 -- ---- the two clauses of a refusal ----
 
@@ -574,29 +533,17 @@ pub new_view : (units channels : List (Option Issued)) (producers : List (List (
     (last n : ℕ) (u : FunctionalUnit) (k : ℕ) (i : Instr) (y : Issued) → IsRight units channels producers ws last
     → n ≡ suc last → k ≡ unit_number u → get_or units k None ≡ None → y ≡ new_issued i u n
     → standing_of (set units k (Some y)) channels n ≡ reserved (standing_of units channels last) i (Ok (u, n))
-new_view units channels producers ws last n u k i y right en e h ey =
-    ap (λ v. standing_of (set units k (Some v)) channels n) ey
-    ∙ ap (λ m. standing_of (set units k (Some (new_issued i u m))) channels m) en
-    ∙ reserved_view units channels producers ws last u k i right e h
-    ∙ ap (λ m. reserved (standing_of units channels last) i (Ok (u, m))) (sym en)
+new_view units channels producers ws last n u k i y right en e h ey = grind (arith, reserved_view)
 
--- the writers when the channel of a load is entered
+-- the writers after a load's channel was entered
 abbrev pub with_channel : Writers → Option ℕ → Writers
 with_channel ws None = ws
 with_channel ws (Some n) = set_writer ws (X n) (Some (OfChannel n))
 
--- the writers after an issue, entered one after the other
+-- the writers after an issue, entered one by one
 pub writers_entered : (ws middle after : Writers) (u : FunctionalUnit) (i : Instr) (r : Option Reg)
     → sets_of (shape_of i) ≡ option_to_list r → middle ≡ with_channel ws (channel_of (shape_of i))
     → after ≡ set_each middle (option_to_list r) (Some (OfUnit u))
     → after ≡ writers_with ws u (sets_of (shape_of i)) (channel_of (shape_of i))
 unfolding writers_with
-writers_entered ws middle after u i r es em ea =
-    ea ∙ ap (λ rs. set_each middle rs (Some (OfUnit u))) (sym es)
-    ∙ ap (λ w. set_each w (sets_of (shape_of i)) (Some (OfUnit u))) em
-    ∙ by_channel (channel_of (shape_of i))
-  where
-    by_channel : (o : Option ℕ) → set_each (with_channel ws o) (sets_of (shape_of i)) (Some (OfUnit u))
-        ≡ writers_with ws u (sets_of (shape_of i)) o
-    by_channel None = refl
-    by_channel (Some n) = refl
+writers_entered ws middle after u i r es em ea = grind arith

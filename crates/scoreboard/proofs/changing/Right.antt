@@ -1,6 +1,6 @@
--- What always holds of a board still holds after each change.
-use Rattle.std.proofs.Common.{◌≡◌, ◌≢◌, ◌<◌, ◌≤◌, ◌+◌, ℕ, zero, suc, Bool, true, false, cond, List, [], ◌∷◌, ◌++◌}
-use Rattle.std.proofs.Common.{Option, Some, None, refl, sym, ap, ◌∙◌, subst, eqb, ltb, map, get_or, set, length, arith}
+-- The board's invariant holds after each change.
+use Rattle.std.proofs.Common.{◌≡◌, ◌<◌, ◌≤◌, ◌+◌, ℕ, zero, suc, Bool, true, false, cond, List, [], ◌∷◌, ◌++◌}
+use Rattle.std.proofs.Common.{Option, Some, None, refl, sym, ap, ◌∙◌, subst, eqb, map, get_or, set, length, arith}
 use Rattle.std.specs.Prelude.{◌&&◌, ◌||◌, IfSome}
 use Rattle.std.proofs.lemmas.Bool.{eq-eqb, eqb-true, eqb-false, le-ltb}
 use Rattle.std.proofs.lemmas.List.{length-set, length-append, set-set, set-append_left, get_or_append_left}
@@ -22,13 +22,13 @@ use Rattle.scoreboard.specs.Answers.{in_occupancy}
 use Rattle.instructions.specs.Each.{Each, Pairs}
 use Rattle.scoreboard.specs.inner.Fields.{forget_in_taken}
 use Rattle.scoreboard.specs.Issued.{number_of, channel_of, written_by_channel, written_in, written_by, or_else}
-use Rattle.scoreboard.specs.Issued.{first_some, if_earlier, writer_of, writer_before}
+use Rattle.scoreboard.specs.Issued.{first_some, if_earlier, writer_before}
 use Rattle.instructions.specs.Order.{somes, IsInSlots}
 use Rattle.scoreboard.specs.inner.View.{in_slots, slot_in, slot_of, IsOther, IsOfKind, AreProducers, IsRight}
 use Rattle.scoreboard.specs.Writers.{IsRegister, writer_at, set_writer, set_each, same_writer, forget}
 use Rattle.instructions.proofs.Lists.{each_map}
 use Rattle.instructions.proofs.Slots.{within, in_slots_others, in_slots_here, in_slots_empty, in_slots_fill}
-use Rattle.scoreboard.proofs.in_slots.Registers.{AreSized, reg_eq_same, set_gives, set_sized, each_sized, each_gives}
+use Rattle.scoreboard.proofs.in_slots.Registers.{AreSized, set_gives, set_sized, each_sized, each_gives}
 use Rattle.scoreboard.proofs.in_slots.Writing.{all_earlier, producers_forget, forget_first, earlier_forget, earlier_at}
 use Rattle.scoreboard.proofs.in_slots.Writing.{channel_no_unit, unit_kept, channel_kept, left_written, returned_written}
 use Rattle.scoreboard.proofs.in_slots.InSlots.{set_back, stands_reserved, stands_returning, others_of, pairs_taken}
@@ -47,21 +47,9 @@ pub right_again : (units channels l : List (Option Issued)) (producers : List (L
     → AreProducers (writer_before z.number (somes l)) (sources_of z.reservation.instr)
     (get_or producers j [])) → IsRight units channels producers ws last
 unfolding in_slots
-right_again units channels l producers ws last e lu lc lp lw s a n k w p = record {
-  all_units = lu;
-  all_channels = lc;
-  all_producers = lp;
-  all_writers = lw;
-  stands = subst (IsInSlots slot_of 0) e s;
-  apart = subst (λ m. Pairs IsOther (somes m)) e a;
-  counted = subst (λ m. Each (λ x. x.number ≤ last) (somes m)) e n;
-  kinds = subst (λ m. Each IsOfKind (somes m)) e k;
-  written = λ r v. w r v ∙ all_earlier last r (somes l) n ∙ ap (λ m. writer_of (somes m) r) e;
-  produced = λ j z h. subst (λ m. AreProducers (writer_before z.number (somes m)) (sources_of z.reservation.instr)
-      (get_or producers j [])) e (p j z h);
-}
+right_again units channels l producers ws last e lu lc lp lw s a n k w p = grind (arith, all_earlier)
 
--- the register's field, by number
+-- the writer of a register, by the register's number
 written_now : (units channels : List (Option Issued)) (producers : List (List (Option Writer))) (ws : Writers)
     (last : ℕ) → IsRight units channels producers ws last → (r : Reg) → IsRegister r
     → writer_at ws r ≡ writer_before (suc last) (somes (units ++ channels)) r
@@ -75,19 +63,11 @@ producers_same f g h [] ps k = tt
 producers_same f g h (r ∷ rs) [] k = absurd k
 producers_same f g h (r ∷ rs) (p ∷ ps) k = (k.0 ∙ sym (h r), producers_same f g h rs ps k.1)
 
--- it has no more to write than before
+-- after a change a reservation has no more to write than before
 other_less : (x y z : Issued) → number_of y ≡ number_of x → ((r : Reg) → comes r y.reservation ≡ true
     → comes r x.reservation ≡ true)
     → IsOther x z → IsOther y z
-other_less x y z e h k = record {
-  number = λ q. k.number (sym e ∙ q);
-  results = λ r. by_tests (comes r y.reservation) (comes r x.reservation) (comes r z.reservation) (h r) (k.results r);
-}
-  where
-    by_tests : (a b c : Bool) → (a ≡ true → b ≡ true) → (b && c) ≡ false → (a && c) ≡ false
-    by_tests false b c i j = refl
-    by_tests true true c i j = j
-    by_tests true false c i j = let q = i refl in cc
+other_less x y z e h k = grind arith
 
 -- ---- operands are read ----
 
@@ -192,7 +172,7 @@ length_forgotten w (o ∷ os) [] = refl
 length_forgotten w (None ∷ os) (ps ∷ pss) = ap suc (length_forgotten w os pss)
 length_forgotten w (Some x ∷ os) (ps ∷ pss) = ap suc (length_forgotten w os pss)
 
--- the producers of a unit that is taken
+-- the producers of a unit that is held
 forgotten_at : (w : Writer) (os : List (Option Issued)) (pss : List (List (Option Writer))) (j : ℕ) (z : Issued)
     → get_or os j None ≡ Some z → get_or (forget_in_taken w os pss) j [] ≡ map (forget w) (get_or pss j [])
 unfolding forget_in_taken
@@ -203,7 +183,8 @@ forgotten_at w (Some x ∷ os) (ps ∷ pss) zero z h = refl
 forgotten_at w (None ∷ os) (ps ∷ pss) (suc j) z h = forgotten_at w os pss j z h
 forgotten_at w (Some x ∷ os) (ps ∷ pss) (suc j) z h = forgotten_at w os pss j z h
 
--- in the producers of the units, a writer is forgotten that has written, or nobody waited for it
+-- a writer that has written is removed from the producers of each unit that is held; the producers of free units don't
+-- matter
 abbrev pub AreForgotten : Writer → List (Option Issued) → List (Option Issued) → List (List (Option Writer)) → Type 0
 AreForgotten w os units pss =
     (length pss ≡ 10) × ((j : ℕ) (z : Issued) → get_or units j None ≡ Some z → (g : Reg → Option Writer)
@@ -238,7 +219,7 @@ written w units channels units' channels' l producers pss ws ws' last right e lu
     (λ r v. f r v ∙ ap (forget w) (written_now units channels producers ws last right r v) ∙ sym (k (suc last) r))
     (λ j z h. p.1 j z h (writer_before z.number (somes l)) (k z.number))
 
--- a register's field is cleared where the one in a slot has its writer entered there
+-- a register's writer is removed if it is the reservation in the slot
 cleared : (w : Writer) (b : Bool) (units channels : List (Option Issued)) (producers : List (List (Option Writer)))
     (ws : Writers) (last : ℕ) (i : ℕ) (x : Issued) (r : Reg) → IsRight units channels producers ws last → IsRegister r
     → get_or (units ++ channels) i None ≡ Some x
@@ -270,48 +251,31 @@ cleared w b units channels producers ws last i x r right v h k step =
         ∙ writer_taken (suc last) r os i x h right.apart
         ∙ ap (λ o. or_else o rest) (earlier_at last r x (each_here (λ y. y.number ≤ last) os i x h right.counted))
 
--- what was in a slot that was not emptied
+-- a slot other than the emptied one keeps its reservation
 not_emptied : (units : List (Option Issued)) (i : ℕ) (j : ℕ) (z : Issued) → i < length units
     → get_or (set units i None) j None ≡ Some z → get_or units j None ≡ Some z
-not_emptied units i j z l h = by_place (eqb j i) refl
-  where
-    by_place : (b : Bool) → eqb j i ≡ b → get_or units j None ≡ Some z
-    by_place true e =
-        let q : None ≡ Some z = sym (get_or-set_same units i None None l)
-        ∙ ap (λ m. get_or (set units i None) m None) (sym (eqb-true j i e)) ∙ h in
-        cc
-    by_place false e = sym (get_or-set_other units i j None None (eqb-false j i e)) ∙ h
+not_emptied units i j z l h = grind (arith, get_or-set_same, eqb-true, get_or-set_other, eqb-false)
 
 earlier_gone : (w : Writer) (n : ℕ) (r : Reg) (x : Issued) → None ≡ forget w (written_by r x)
     → None ≡ forget w (if_earlier n (written_by r) x)
 unfolding if_earlier forget
-earlier_gone w n r x h = by_test (ltb x.number n)
-  where
-    by_test : (b : Bool) → None ≡ forget w (cond b (written_by r x) None)
-    by_test true = h
-    by_test false = refl
+earlier_gone w n r x h = grind arith
 
 earlier_left : (w : Writer) (n : ℕ) (r : Reg) (x y : Issued) → y.number ≡ x.number
     → written_by r y ≡ forget w (written_by r x)
     → if_earlier n (written_by r) y ≡ forget w (if_earlier n (written_by r) x)
 unfolding if_earlier forget
-earlier_left w n r x y e h = ap (λ m. cond (ltb m n) (written_by r y) None) e ∙ by_test (ltb x.number n)
-  where
-    by_test : (b : Bool) → cond b (written_by r y) None ≡ forget w (cond b (written_by r x) None)
-    by_test true = h
-    by_test false = refl
+earlier_left w n r x y e h = grind arith
 
--- the writer of each register, when one is taken out that has written
+-- the writer of each register, after a reservation that has written is removed
 gone_written : (w : Writer) (os : List (Option Issued)) (i : ℕ) (x : Issued) → get_or os i None ≡ Some x
     → Pairs IsOther (somes os) → ((s : Reg) → None ≡ forget w (written_by s x))
     → ((s : Reg) → Each (λ y. forget w (written_by s y) ≡ written_by s y) (somes (set os i None))) → (n : ℕ) (r : Reg)
     → writer_before n (somes (set os i None)) r ≡ forget w (writer_before n (somes os) r)
 unfolding or_else
-gone_written w os i x h p g k n r =
-    ap (λ o. or_else o (writer_before n (somes (set os i None)) r)) (earlier_gone w n r x (g r))
-    ∙ writer_gone w n r os i x h p k
+gone_written w os i x h p g k n r = cc (earlier_gone w n r x (g r), writer_gone w n r os i x h p k)
 
--- what those up to the number of the one in a slot wait for is no result of its own
+-- no reservation with a number up to that of the slot waits for one of its results
 nobody_waits : (w : Writer) (os : List (Option Issued)) (i : ℕ) (x : Issued) (n : ℕ) (r : Reg)
     → get_or os i None ≡ Some x → Pairs IsOther (somes os)
     → Each (λ y. forget w (written_by r y) ≡ written_by r y) (somes (set os i None)) → n ≤ x.number
@@ -333,7 +297,7 @@ nobody_waits w os i x n r here a others l =
     kept = each_map (λ y. forget w (written_by r y) ≡ written_by r y) (λ y. forget w (f y) ≡ f y)
         (λ y q. earlier_forget w n r y q) (somes (set os i None)) others
 
--- nobody waits for the last one
+-- no reservation waits for the last one
 last_forgotten : (w : Writer) (units channels units' : List (Option Issued)) (producers : List (List (Option Writer)))
     (ws : Writers) (last i : ℕ) (x : Issued) → IsRight units channels producers ws last
     → get_or (units ++ channels) i None ≡ Some x
@@ -361,17 +325,7 @@ field_returned : (n : ℕ) (r : Reg) (x : Issued) (rest : Option Writer) → x.r
     → forget (OfChannel n) rest ≡ rest
     → cond (reg_eq r (X n)) None (or_else (written_by r x) rest) ≡ forget (OfChannel n) (or_else (written_by r x) rest)
 unfolding written_by written_in written_by_channel forget same_writer or_else
-field_returned n r x rest e k =
-    ap (λ p. cond (reg_eq r (X n)) None (or_else (written_in r x.reservation.unit (shape_of x.reservation.instr) p)
-    rest)) e
-    ∙ by_test (reg_eq r (X n))
-    ∙ ap (λ p. forget (OfChannel n) (or_else (written_in r x.reservation.unit (shape_of x.reservation.instr) p) rest))
-    (sym e)
-  where
-    by_test : (b : Bool) → cond b None (or_else (cond b (Some (OfChannel n)) None) rest)
-        ≡ forget (OfChannel n) (or_else (cond b (Some (OfChannel n)) None) rest)
-    by_test true = sym (ap (λ b. cond b None (Some (OfChannel n))) (eq-eqb n n refl))
-    by_test false = sym k
+field_returned n r x rest e k = grind arith
 
 comes_returning : (n : ℕ) (x : Issued) → x.reservation.occupancy ≡ Left (Some n) → comes (X n) x.reservation ≡ true
 unfolding comes to_come to_come_in returning_to is_in
@@ -380,9 +334,7 @@ comes_returning n x e =
 
 others_not_loading : (n : ℕ) (x : Issued) (ys : List Issued) → comes (X n) x.reservation ≡ true → Each (IsOther x) ys
     → (r : Reg) → Each (λ y. forget (OfChannel n) (written_by r y) ≡ written_by r y) ys
-others_not_loading n x ys h k r =
-    each_map (IsOther x) (λ y. forget (OfChannel n) (written_by r y) ≡ written_by r y)
-    (λ y q. channel_kept n r y (sym (ap (λ b. b && comes (X n) y.reservation) h) ∙ q.results (X n))) ys k
+others_not_loading n x ys h k r = grind (arith, each_map, channel_kept)
 
 pub returned_right : (units channels : List (Option Issued)) (producers : List (List (Option Writer))) (ws : Writers)
     (last n : ℕ) (x : Issued) → IsRight units channels producers ws last → n < 8 → get_or channels n None ≡ Some x
@@ -417,7 +369,7 @@ returned_right units channels producers ws last n x right below_8 h pss forgotte
     others = others_not_loading n x (somes (set os (10 + n) None)) (comes_returning n x returning)
         (others_of os (10 + n) x here right.apart)
 
--- nobody waits for the last one's register
+-- no reservation waits for the register that the last load writes
 pub returned_last : (units channels : List (Option Issued)) (producers : List (List (Option Writer))) (ws : Writers)
     (last n : ℕ) (x : Issued) → IsRight units channels producers ws last → n < 8 → get_or channels n None ≡ Some x
     → x.number ≡ last
@@ -436,7 +388,7 @@ returned_last units channels producers ws last n x right below_8 h k =
         stands_returning n x below_8 (in_slots_here slot_of (units ++ channels) 0 (10 + n) x here right.stands
         ∙ omega arith)
 
--- and for that of another they wait no longer
+-- after a return, the other reservations no longer wait for its register
 pub returned_others : (units channels : List (Option Issued)) (producers : List (List (Option Writer))) (ws : Writers)
     (last n : ℕ) → IsRight units channels producers ws last
     → AreForgotten (OfChannel n) (units ++ channels) units (forget_in_taken (OfChannel n) units producers)
@@ -445,7 +397,7 @@ returned_others units channels producers ws last n right =
 
 -- ---- a unit is released ----
 
--- the channels after a store event: a load is in its own
+-- the channels after a store event, with a load moved into its channel
 unfoldable pub channels_with : List (Option Issued) → Issued → Option ℕ → List (Option Issued)
 channels_with channels x None = channels
 channels_with channels x (Some n) = set channels n (Some (in_occupancy x (Left (Some n))))
@@ -455,35 +407,18 @@ field_left_in : (u v : FunctionalUnit) (r : Reg) (s : Shape) (has_read : Bool) (
     → cond (is_in (sets_of s) r) None (or_else (written_in r v s (Reserved has_read)) rest)
     ≡ forget (OfUnit u) (or_else (written_in r v s (Reserved has_read)) rest)
 unfolding written_in forget same_writer or_else
-field_left_in u v r s has_read rest h k = by_test (is_in (sets_of s) r)
-  where
-    by_channel : (o : Option Writer) → forget (OfUnit u) o ≡ o → or_else o rest ≡ forget (OfUnit u) (or_else o rest)
-    by_channel None e = sym k
-    by_channel (Some c) e = sym e
-
-    by_test : (b : Bool) → cond b None (or_else (cond b (Some (OfUnit v)) (written_by_channel r (channel_of s))) rest)
-        ≡ forget (OfUnit u) (or_else (cond b (Some (OfUnit v)) (written_by_channel r (channel_of s))) rest)
-    by_test true = sym (ap (λ b. cond b None (Some (OfUnit v))) h)
-    by_test false = by_channel (written_by_channel r (channel_of s)) (channel_no_unit u r (channel_of s))
+field_left_in u v r s has_read rest h k = grind (arith, channel_no_unit)
 
 field_left : (u : FunctionalUnit) (r : Reg) (x : Issued) (has_read : Bool) (rest : Option Writer)
     → x.reservation.occupancy ≡ Reserved has_read → same_unit x.reservation.unit u ≡ true → forget (OfUnit u) rest ≡ rest
     → cond (is_in (sets_of (shape_of x.reservation.instr)) r) None (or_else (written_by r x) rest)
     ≡ forget (OfUnit u) (or_else (written_by r x) rest)
 unfolding written_by
-field_left u r x has_read rest e h k =
-    ap (λ p. cond (is_in (sets_of (shape_of x.reservation.instr)) r) None
-    (or_else (written_in r x.reservation.unit (shape_of x.reservation.instr) p) rest)) e
-    ∙ field_left_in u x.reservation.unit r (shape_of x.reservation.instr) has_read rest h k
-    ∙ ap (λ p. forget (OfUnit u) (or_else (written_in r x.reservation.unit (shape_of x.reservation.instr) p) rest))
-    (sym e)
+field_left u r x has_read rest e h k = grind (arith, field_left_in)
 
 others_elsewhere : (u : FunctionalUnit) (os : List (Option Issued)) (i : ℕ) → i ≡ unit_number u → IsInSlots slot_of 0 os
     → (r : Reg) → Each (λ y. forget (OfUnit u) (written_by r y) ≡ written_by r y) (somes (set os i None))
-others_elsewhere u os i e s r =
-    each_map (λ y. slot_of y ≢ i) (λ y. forget (OfUnit u) (written_by r y) ≡ written_by r y)
-    (λ y k. unit_kept u r y (λ q. k (q ∙ sym e))) (somes (set os i None))
-    (in_slots_others slot_of os 0 i i (omega arith) s)
+others_elsewhere u os i e s r = grind (arith, each_map, unit_kept, in_slots_others)
 
 comes_loading_in : (n : ℕ) (s : Shape) (b : Bool) → channel_of s ≡ Some n
     → is_in (to_come_in s (Reserved b)) (X n) ≡ true
@@ -494,25 +429,18 @@ comes_loading_in n (Stores m) b h = cc
 comes_loading_in n Jumps b h = cc
 comes_loading_in n Links b h = cc
 
--- a load in its unit has its register still to come
+-- a load in its unit has its X register still to come
 pub comes_loading : (n : ℕ) (x : Issued) (b : Bool) → x.reservation.occupancy ≡ Reserved b
     → channel_of (shape_of x.reservation.instr) ≡ Some n → comes (X n) x.reservation ≡ true
 unfolding comes to_come
-comes_loading n x b e h =
-    ap (λ p. is_in (to_come_in (shape_of x.reservation.instr) p) (X n)) e
-    ∙ comes_loading_in n (shape_of x.reservation.instr) b h
+comes_loading n x b e h = grind (arith, comes_loading_in)
 
--- and nothing else once it has left
+-- a load that has left its unit has no other result to come
 left_comes : (n : ℕ) (x : Issued) (b : Bool) → x.reservation.occupancy ≡ Reserved b
     → channel_of (shape_of x.reservation.instr) ≡ Some n
     → (r : Reg) → comes r (in_occupancy x (Left (Some n))).reservation ≡ true → comes r x.reservation ≡ true
 unfolding comes to_come to_come_in returning_to is_in in_occupancy
-left_comes n x b e h r k =
-    ap (λ s. comes s x.reservation) (reg_eq_same r (X n) (or_left (reg_eq r (X n)) k)) ∙ comes_loading n x b e h
-  where
-    or_left : (t : Bool) → (t || false) ≡ true → t ≡ true
-    or_left true q = refl
-    or_left false q = q
+left_comes n x b e h r k = grind (arith, comes_loading n x b e h)
 
 left_other : (n : ℕ) (x z : Issued) (b : Bool) → x.reservation.occupancy ≡ Reserved b
     → channel_of (shape_of x.reservation.instr) ≡ Some n → IsOther x z → IsOther (in_occupancy x (Left (Some n))) z
@@ -535,7 +463,7 @@ left_slot : (n : ℕ) (x : Issued) → slot_of (in_occupancy x (Left (Some n))) 
 unfolding slot_of slot_in in_occupancy
 left_slot n x = refl
 
--- the channel of a load that is in its unit is empty
+-- while a load is in its unit, its channel is empty
 pub channel_empty : (os : List (Option Issued)) (i n : ℕ) (x : Issued) (b : Bool) → n < 8 → get_or os i None ≡ Some x
     → IsInSlots slot_of 0 os → Pairs IsOther (somes os) → x.reservation.occupancy ≡ Reserved b
     → channel_of (shape_of x.reservation.instr) ≡ Some n → get_or (set os i None) (10 + n) None ≡ None
@@ -559,7 +487,7 @@ channel_empty os i n x b l h s p e k = by_slot (get_or (set os i None) (10 + n) 
 
 -- ---- an instruction has come to its store event ----
 
--- nobody waits for the last one's results
+-- no reservation waits for the results of the last one
 pub released_last : (units channels : List (Option Issued)) (producers : List (List (Option Writer))) (ws : Writers)
     (last : ℕ) (u : FunctionalUnit) (i : ℕ) (x : Issued) → IsRight units channels producers ws last → i ≡ unit_number u
     → get_or units i None ≡ Some x → x.number ≡ last
@@ -570,15 +498,13 @@ released_last units channels producers ws last u i x right e h k =
     (others_elsewhere u (units ++ channels) i e right.stands) k
     (λ j z q. not_emptied units i j z (within units i x h) q)
 
--- and for those of another they wait no longer
+-- after a store event, the other reservations no longer wait for its results
 pub released_others : (units channels : List (Option Issued)) (producers : List (List (Option Writer))) (ws : Writers)
     (last : ℕ) (u : FunctionalUnit) (i : ℕ) (x : Issued) → IsRight units channels producers ws last
     → get_or units i None ≡ Some x
     → AreForgotten (OfUnit u) (units ++ channels) (set units i None)
     (forget_in_taken (OfUnit u) (set units i None) producers)
-released_others units channels producers ws last u i x right h =
-    all_forgotten (OfUnit u) units channels (set units i None) producers ws last right
-    (λ j z q. not_emptied units i j z (within units i x h) q)
+released_others units channels producers ws last u i x right h = search (arith, all_forgotten, not_emptied, within)
 
 pub released_right : (units channels : List (Option Issued)) (producers : List (List (Option Writer))) (ws : Writers)
     (last : ℕ) (u : FunctionalUnit) (i : ℕ) (x : Issued) → IsRight units channels producers ws last → i ≡ unit_number u

@@ -1,4 +1,4 @@
--- The slots of a board, when one is read, emptied or filled.
+-- A board's slots, after one is read, emptied or filled.
 use Rattle.std.proofs.Common.{◌≡◌, ◌≢◌, ◌<◌, ◌+◌, ℕ, zero, suc, Bool, true, false, cond, List, [], ◌∷◌, ◌++◌, Option}
 use Rattle.std.proofs.Common.{Some, None, refl, sym, ap, ◌∙◌, subst, ltb, get_or, set, length, arith}
 use Rattle.std.specs.Prelude.{◌&&◌}
@@ -9,7 +9,7 @@ use Rattle.instructions.specs.declared.instr.Unit.TheVariants.{Branch, Boolean, 
 use Rattle.instructions.specs.declared.instr.Unit.TheVariants.{Multiply2, Divide, Increment1, Increment2}
 use Rattle.scoreboard.specs.declared.reservation.Occupancy.{Occupancy}
 use Rattle.scoreboard.specs.declared.reservation.Occupancy.TheVariants.{Reserved, Left}
-use Rattle.scoreboard.specs.Reservations.{comes, holds, is_reserved}
+use Rattle.scoreboard.specs.Reservations.{holds, is_reserved}
 use Rattle.scoreboard.specs.Units.{unit_number, same_unit}
 use Rattle.scoreboard.specs.declared.issued.Issued.{Issued}
 use Rattle.scoreboard.specs.declared.writer.Writer.{Writer}
@@ -82,7 +82,7 @@ pub stands_not_held : (u : FunctionalUnit) (x : Issued) → (slot_of x ≡ unit_
 unfolding held_in
 stands_not_held u x h = ap (λ b. cond b (Some x.reservation.instr) None) (stands_not u x h)
 
--- one in the slot of a unit is reserved there
+-- a reservation in a unit's slot holds that unit
 reserved_in : (u v : FunctionalUnit) (p : Occupancy) → slot_in v p ≡ unit_number u → (b : Bool) × (p ≡ Reserved b)
     × (same_unit v u ≡ true)
 unfolding slot_in same_unit
@@ -129,20 +129,9 @@ pairs_map R S f [] h = tt
 pairs_map R S f (x ∷ xs) h = (each_map (R x) (S x) (f x) xs h.0, pairs_map R S f xs h.1)
 
 pub other_flip : (x y : Issued) → IsOther x y → IsOther y x
-other_flip x y h =
-    record {
-      number = λ e. h.number (sym e);
-      results = λ r. flip (comes r x.reservation) (comes r y.reservation)
-          (h.results r);
-    }
-  where
-    flip : (a b : Bool) → (a && b) ≡ false → (b && a) ≡ false
-    flip true true k = k
-    flip true false k = refl
-    flip false true k = refl
-    flip false false k = refl
+other_flip x y h = grind arith
 
--- the others, once it is taken out
+-- the other reservations, after one is removed
 pub others_of : (os : List (Option Issued)) (i : ℕ) (x : Issued) → get_or os i None ≡ Some x → Pairs IsOther (somes os)
     → Each (IsOther x) (somes (set os i None))
 others_of os i x h p =
@@ -226,9 +215,7 @@ pub writer_taken : (n : ℕ) (r : Reg) (os : List (Option Issued)) (i : ℕ) (x 
     → Pairs IsOther (somes os) → writer_before n (somes os) r
     ≡ or_else (if_earlier n (written_by r) x) (writer_before n (somes (set os i None)) r)
 unfolding writer_before
-writer_taken n r os i x h p =
-    first_taken (if_earlier n (written_by r)) os i x h
-    (alone_among n r x (somes (set os i None)) (others_of os i x h p))
+writer_taken n r os i x h p = grind (arith, first_taken, alone_among, others_of)
 
 pub writer_put : (n : ℕ) (r : Reg) (os : List (Option Issued)) (i : ℕ) (y : Issued) → get_or os i None ≡ None
     → i < length os → Each (IsOther y) (somes os)
@@ -237,7 +224,7 @@ pub writer_put : (n : ℕ) (r : Reg) (os : List (Option Issued)) (i : ℕ) (y : 
 unfolding writer_before
 writer_put n r os i y h l d = first_put (if_earlier n (written_by r)) os i y h l (alone_among n r y (somes os) d)
 
--- one that is taken out and has written
+-- a reservation that has written is removed
 pub writer_gone : (w : Writer) (n : ℕ) (r : Reg) (os : List (Option Issued)) (i : ℕ) (x : Issued)
     → get_or os i None ≡ Some x → Pairs IsOther (somes os)
     → ((s : Reg) → Each (λ y. forget w (written_by s y) ≡ written_by s y) (somes (set os i None)))
@@ -253,7 +240,7 @@ writer_gone w n r os i x h p k =
     (λ y q. earlier_forget w n r y q) (somes (set os i None)) (k r)))
     ∙ ap (forget w) (sym (writer_taken n r os i x h p))
 
--- one that is replaced and is written for as before
+-- a reservation is replaced by one with the same writers
 pub writer_same : (n : ℕ) (r : Reg) (os : List (Option Issued)) (i : ℕ) (x y : Issued) → get_or os i None ≡ Some x
     → number_of x ≡ number_of y → written_by r x ≡ written_by r y
     → writer_before n (somes (set os i (Some y))) r ≡ writer_before n (somes os) r

@@ -1,7 +1,6 @@
--- Who is to write which register, when some of them are set.
-use Rattle.std.proofs.Common.{◌≡◌, ◌<◌, ℕ, Bool, true, false, cond, List, [], ◌∷◌, Option, None, refl, ap, ◌∙◌, eqb}
+-- The writer of each register, after some are set.
+use Rattle.std.proofs.Common.{◌≡◌, ◌<◌, ℕ, true, cond, List, [], ◌∷◌, Option, None, refl, ap, ◌∙◌, eqb}
 use Rattle.std.proofs.Common.{get_or, set, length, arith}
-use Rattle.std.specs.Prelude.{◌||◌}
 use Rattle.std.proofs.lemmas.Bool.{eqb-true, eqb-false}
 use Rattle.std.proofs.lemmas.List.{length-set, get_or-set_same, get_or-set_other}
 use Rattle.instructions.specs.declared.instr.Reg.{Reg}
@@ -29,12 +28,7 @@ reg_eq_same (B m) (A n) h = cc
 
 get_set : (os : List (Option Writer)) (m n : ℕ) (o : Option Writer) → length os ≡ 8 → m < 8
     → get_or (set os m o) n None ≡ cond (eqb n m) o (get_or os n None)
-get_set os m n o l b = by_test (eqb n m) refl
-  where
-    by_test : (t : Bool) → eqb n m ≡ t → get_or (set os m o) n None ≡ cond t o (get_or os n None)
-    by_test true e =
-        ap (λ k. get_or (set os m o) k None) (eqb-true n m e) ∙ get_or-set_same os m o None (omega (arith, l, b))
-    by_test false e = get_or-set_other os m n o None (eqb-false n m e)
+get_set os m n o l b = search (arith, eqb-true, get_or-set_same, get_or-set_other, eqb-false)
 
 pub set_gives : (ws : Writers) (s r : Reg) (o : Option Writer) → AreSized ws → IsRegister s
     → writer_at (set_writer ws s o) r ≡ cond (reg_eq r s) o (writer_at ws r)
@@ -64,12 +58,4 @@ pub each_gives : (rs : List Reg) (ws : Writers) (r : Reg) (o : Option Writer) �
 unfolding is_in
 each_gives [] ws r o l v = refl
 each_gives (s ∷ rs) ws r o l v =
-    each_gives rs (set_writer ws s o) r o (set_sized ws s o l) v.1
-    ∙ ap (λ q. cond (is_in rs r) o q) (set_gives ws s r o l v.0)
-    ∙ by_tests (reg_eq r s) (is_in rs r)
-  where
-    by_tests : (p q : Bool) → cond q o (cond p o (writer_at ws r)) ≡ cond (p || q) o (writer_at ws r)
-    by_tests true true = refl
-    by_tests true false = refl
-    by_tests false true = refl
-    by_tests false false = refl
+    grind (arith, each_gives rs (set_writer ws s o) r o (set_sized ws s o l) v.1, set_sized, set_gives)

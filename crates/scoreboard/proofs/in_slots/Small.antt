@@ -1,4 +1,4 @@
--- Lists of registers and of writers, one element at a time.
+-- Lists of registers and of writers, element by element.
 use Rattle.std.proofs.Common.{◌≡◌, ◌<◌, ◌≤◌, ◌+◌, ℕ, zero, suc, true, false, cond, List, [], ◌∷◌, ◌++◌}
 use Rattle.std.proofs.Common.{Option, Some, None, length, get_or, set, map, take, drop, refl, sym, ap, ◌∙◌, arith}
 use Rattle.std.specs.Prelude.{is_some, slice_get, IfSome, find, zip, option_map}
@@ -14,7 +14,7 @@ use Rattle.instructions.specs.declared.instr.Reg.{Reg}
 use Rattle.scoreboard.specs.declared.writer.Writer.{Writer}
 use Rattle.scoreboard.specs.declared.issued.Issued.{Issued}
 use Rattle.instructions.specs.Each.{Each}
-use Rattle.scoreboard.specs.inner.Fields.{forget_in_taken}
+use Rattle.scoreboard.specs.inner.Fields.{forget_in_taken, first_produced}
 use Rattle.scoreboard.specs.inner.View.{AreProducers}
 use Rattle.scoreboard.specs.Writers.{IsRegister, writer_if, is_expected, forget}
 
@@ -29,13 +29,9 @@ mapped_at f (x ∷ xs) (suc i) d z h k = ap (λ l. f x ∷ l) (mapped_at f xs i 
 
 pub mapped_more : {K : Type 0} (f : K → K) (xs ys : List K) (i : ℕ) (d z : K) → i < length xs → ys ≡ map f (take i xs)
     ++ drop i xs → z ≡ f (get_or ys i d) → set ys i z ≡ map f (take (i + 1) xs) ++ drop (i + 1) xs
-mapped_more f xs ys i d z h e k =
-    let s : suc i ≡ i + 1 = omega arith in
-    ap (λ l. set l i z) e
-    ∙ mapped_at f xs i d z h (k ∙ ap (λ l. f (get_or l i d)) e)
-    ∙ ap (λ n. map f (take n xs) ++ drop n xs) s
+mapped_more f xs ys i d z h e k = grind (arith, mapped_at)
 
--- one that stays as it is
+-- an element that the function leaves unchanged
 pub mapped_same : {K : Type 0} (f : K → K) (xs ys : List K) (i : ℕ) (d : K) → i < length xs → ys ≡ map f (take i xs)
     ++ drop i xs → get_or ys i d ≡ f (get_or ys i d) → ys ≡ map f (take (i + 1) xs) ++ drop (i + 1) xs
 mapped_same f xs ys i d h e k = sym (set-get_or ys i d) ∙ mapped_more f xs ys i d (get_or ys i d) h e k
@@ -97,14 +93,7 @@ free_more w os pss qss i o h l g t e =
 
 -- ---- the first register with a producer ----
 
--- the first of the registers with a producer
-unfoldable pub first_produced : List Reg → List (Option Writer) → Option Reg
-first_produced [] ps = None
-first_produced (r ∷ rs) [] = None
-first_produced (r ∷ rs) (None ∷ ps) = first_produced rs ps
-first_produced (r ∷ rs) (Some w ∷ ps) = Some r
-
--- it is found among the pairs of a register and its producer
+-- the first register with a producer, searched among the pairs of both
 pub produced_in_zip : (rs : List Reg) (ps : List (Option Writer)) (o : Option (Reg × Option Writer))
     → o ≡ find (λ p. is_some p.1) (zip rs ps) → option_map (λ p. p.0) o ≡ first_produced rs ps
 unfolding first_produced
@@ -117,7 +106,7 @@ produced_in_zip rs ps o e = ap (option_map (λ p. p.0)) e ∙ by_pairs rs ps
     by_pairs (r ∷ rs) (None ∷ ps) = by_pairs rs ps
     by_pairs (r ∷ rs) (Some w ∷ ps) = refl
 
--- where there is no writer there is no first
+-- without a writer, no register is found
 pub none_produced : (rs : List Reg) (ps : List (Option Writer)) → list_any is_some ps ≡ false
     → None ≡ first_produced rs ps
 unfolding first_produced
@@ -148,7 +137,7 @@ three_registers (r ∷ s ∷ t ∷ u ∷ rs) h e g k = absurd (omega arith)
 
 -- ---- the index of a unit ----
 
--- the unit as an index, which is its number
+-- a unit as an index, which is its number
 abbrev pub index_of : FunctionalUnit → ℕ
 index_of u = tag_of the_type u
 

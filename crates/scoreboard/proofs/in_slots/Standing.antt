@@ -1,13 +1,14 @@
--- What the slots hold, in the order of their numbers: who is found there, who is earlier, and what a change leaves.
+-- The contents of the slots in the order of their numbers: the found reservation, the earlier ones, and the effect of a
+-- change.
 use Rattle.std.proofs.Common.{◌≡◌, ◌≢◌, ◌<◌, ◌≤◌, ◌+◌, ℕ, zero, suc, Bool, true, false, cond, List, [], ◌∷◌, ◌++◌}
 use Rattle.std.proofs.Common.{Option, Some, None, refl, sym, ap, ◌∙◌, subst, ltb, get_or, set, length, arith}
-use Rattle.std.specs.Prelude.{is_some, ◌&&◌, ◌||◌, unwrap_or, find, Result, Ok, Err}
+use Rattle.std.specs.Prelude.{is_some, ◌&&◌, ◌||◌, find, Result, Ok, Err}
 use Rattle.std.specs.List.{list_any}
 use Rattle.std.proofs.lemmas.List.{get_or_append_left}
 use Rattle.std.proofs.lemmas.List.Folds.{list_any-append}
 use Rattle.std.proofs.lemmas.Bool.{and_right}
 use Rattle.instructions.specs.declared.instr.Reg.{Reg}
-use Rattle.instructions.specs.declared.instr.Reg.TheVariants.{X, B}
+use Rattle.instructions.specs.declared.instr.Reg.TheVariants.{X}
 use Rattle.instructions.specs.declared.instr.Unit.{Unit as FunctionalUnit}
 use Rattle.instructions.specs.declared.refusal.Refusal.{Refusal}
 use Rattle.instructions.specs.declared.refusal.Refusal.TheVariants.{OperandAwaited, ResultHeld}
@@ -15,9 +16,7 @@ use Rattle.instructions.specs.declared.instr.Instr.{Instr}
 use Rattle.instructions.specs.Finding.{seek, replaced}
 use Rattle.instructions.specs.Shape.{shape_of, sets_of}
 use Rattle.instructions.specs.Operands.{sources_of}
-use Rattle.scoreboard.specs.declared.reservation.Occupancy.{Occupancy}
-use Rattle.scoreboard.specs.declared.reservation.Occupancy.TheVariants.{Reserved, Left}
-use Rattle.scoreboard.specs.Reservations.{comes, holds, reads, reads_in, reads_it, is_reserved}
+use Rattle.scoreboard.specs.Reservations.{holds, reads, reads_in, reads_it, is_reserved}
 use Rattle.scoreboard.specs.Units.{unit_number}
 use Rattle.scoreboard.specs.Conflicts.{awaited, to_be_read, first_such}
 use Rattle.instructions.specs.RegisterLists.{is_in}
@@ -27,9 +26,9 @@ use Rattle.scoreboard.specs.declared.writers.Writers.{Writers}
 use Rattle.scoreboard.specs.Answers.{held_in, returning_by, unless, read_answer, store_answer, return_answer}
 use Rattle.instructions.specs.Each.{Each, Pairs}
 use Rattle.scoreboard.specs.inner.Fields.{slot_reads}
-use Rattle.scoreboard.specs.Issued.{reservation_of, number_of, written_by, if_earlier, writer_before}
+use Rattle.scoreboard.specs.Issued.{reservation_of, number_of, writer_before}
 use Rattle.instructions.specs.Order.{sort_by, somes, IsInSlots}
-use Rattle.scoreboard.proofs.in_slots.Small.{first_produced}
+use Rattle.scoreboard.specs.inner.Fields.{first_produced}
 use Rattle.scoreboard.specs.inner.View.{in_slots, IsOther, slot_in, slot_of, AreProducers, IsRight}
 use Rattle.instructions.proofs.Lists.{each_map, or_false, any_same}
 use Rattle.instructions.proofs.Sorted.{any_sort, any_earlier, any_somes, IsIncreasing, sort_increasing, sort_each}
@@ -44,7 +43,7 @@ use Rattle.scoreboard.proofs.in_slots.InSlots.{stands_returns, stands_not_return
 
 -- ---- the one in a slot, in order ----
 
--- with others in its position
+-- the list with the found reservation replaced
 pub changed : (f : Issued → Option Instr) (g : Issued → List Issued) (os : List (Option Issued)) (i : ℕ) (x : Issued)
     → get_or os i None ≡ Some x → Pairs IsOther (somes os) → f x ≡ Some x.reservation.instr
     → Each (λ y. f y ≡ None) (somes (set os i None))
@@ -61,7 +60,7 @@ pub nobody_changed : (f : Issued → Option Instr) (g : Issued → List Issued) 
 nobody_changed f g os k =
     replaced_nobody f g (sort_by number_of (somes os)) (sort_each number_of (λ y. f y ≡ None) (somes os) k)
 
--- a test of the earlier ones is a test of the slots with a lower number
+-- a test of the earlier reservations is a test of the slots with a lower number
 pub earlier_any : (f : Issued → Bool) (os : List (Option Issued)) (i : ℕ) (x : Issued) → get_or os i None ≡ Some x
     → Pairs IsOther (somes os) → list_any (λ y. ltb (number_of y) (number_of x) && f y) (somes os)
     ≡ list_any f (before_slot number_of os i x)
@@ -87,20 +86,16 @@ list_read (y ∷ xs) (suc i) x h e = list_read xs i x (omega arith) e
 
 pub unit_slot : (units channels : List (Option Issued)) (u : FunctionalUnit) (i : ℕ) (o : Option Issued)
     → length units ≡ 10 → i ≡ unit_number u → get_or units i None ≡ o → get_or (units ++ channels) i None ≡ o
-unit_slot units channels u i o l e h =
-    let b : unit_number u < 10 = unit_below u in
-    get_or_append_left units channels None i (omega (arith, b, e, l)) ∙ h
+unit_slot units channels u i o l e h = grind (arith, unit_below, get_or_append_left)
 
 pub channel_slot : (units channels : List (Option Issued)) (n : ℕ) (o : Option Issued) → length units ≡ 10
     → get_or channels n None ≡ o → get_or (units ++ channels) (10 + n) None ≡ o
 channel_slot units channels n o l h = get_back units channels n (10 + n) None (omega (arith, l)) ∙ h
 
--- no other holds the unit
+-- no other reservation holds the unit
 pub others_free : (u : FunctionalUnit) (os : List (Option Issued)) (i : ℕ) → i ≡ unit_number u → IsInSlots slot_of 0 os
     → Each (λ y. held_in u y ≡ None) (somes (set os i None))
-others_free u os i e s = each_map (λ y. slot_of y ≢ i) (λ y. held_in u y ≡ None)
-    (λ y k. stands_not_held u y (λ q. k (q ∙ sym e))) (somes (set os i None))
-    (in_slots_others slot_of os 0 i i (omega arith) s)
+others_free u os i e s = grind (arith, each_map, stands_not_held, in_slots_others)
 
 pub nobody_holds : (u : FunctionalUnit) (os : List (Option Issued)) (i : ℕ) → i ≡ unit_number u
     → get_or os i None ≡ None → IsInSlots slot_of 0 os → Each (λ y. holds u y.reservation ≡ false) (somes os)
@@ -122,9 +117,7 @@ here_held u os i x e h s = let q = in_slots_here slot_of os 0 i x h s in stands_
 
 pub others_not_returning : (n : ℕ) (os : List (Option Issued)) → IsInSlots slot_of 0 os
     → Each (λ y. returning_by n y ≡ None) (somes (set os (10 + n) None))
-others_not_returning n os s =
-    each_map (λ y. slot_of y ≢ 10 + n) (λ y. returning_by n y ≡ None) (λ y k. stands_not_returning n y k)
-    (somes (set os (10 + n) None)) (in_slots_others slot_of os 0 (10 + n) (10 + n) (omega arith) s)
+others_not_returning n os s = grind (arith, each_map, stands_not_returning, in_slots_others)
 
 pub nobody_returns : (n : ℕ) (os : List (Option Issued)) → get_or os (10 + n) None ≡ None → IsInSlots slot_of 0 os
     → Each (λ y. returning_by n y ≡ None) (somes os)
@@ -143,21 +136,12 @@ from_found (Some r) k = Err (k r)
 
 pub any_find : (test : Reg → Bool) (rs : List Reg) → list_any test rs ≡ is_some (find test rs)
 any_find test [] = refl
-any_find test (r ∷ rs) = by_test (test r) (any_find test rs)
-  where
-    by_test : (b : Bool) → list_any test rs ≡ is_some (find test rs)
-        → (b || list_any test rs) ≡ is_some (cond b (Some r) (find test rs))
-    by_test true e = refl
-    by_test false e = e
+any_find test (r ∷ rs) = grind (arith, any_find test rs)
 
 pub unless_found : (test : Reg → Bool) (rs : List Reg) (k : Reg → Refusal)
     → from_found (find test rs) k ≡ unless (list_any test rs) (k (first_such test rs))
 unfolding from_found
-unless_found test rs k = by_answer (find test rs) ∙ ap (λ b. unless b (k (first_such test rs))) (sym (any_find test rs))
-  where
-    by_answer : (o : Option Reg) → from_found o k ≡ unless (is_some o) (k (unwrap_or o (B 0)))
-    by_answer None = refl
-    by_answer (Some r) = refl
+unless_found test rs k = grind (arith, any_find)
 
 pub find_same : (f g : Reg → Bool) → ((r : Reg) → f r ≡ g r) → (rs : List Reg) → find f rs ≡ find g rs
 find_same f g h [] = refl
@@ -175,17 +159,12 @@ produced_found f (r ∷ rs) (Some w ∷ ps) h = ap (λ o. cond (is_some o) (Some
 
 -- ---- Second order ----
 
--- a source has a producer where it is a result still to come of an earlier one
+-- a source has a producer exactly if it is a result still to come of an earlier reservation
 pub awaited_earlier : (r : Reg) (os : List (Option Issued)) (i : ℕ) (x : Issued) → get_or os i None ≡ Some x
     → Pairs IsOther (somes os) → is_some (writer_before x.number (somes os) r)
     ≡ awaited reservation_of (before_slot number_of os i x) r
 unfolding writer_before awaited number_of reservation_of
-awaited_earlier r os i x h p =
-    some_any (if_earlier x.number (written_by r)) (somes os)
-    ∙ any_same (λ y. is_some (if_earlier x.number (written_by r) y)) (λ y. ltb y.number x.number && comes r
-    y.reservation)
-    (earlier_some x.number r) (somes os)
-    ∙ earlier_any (λ y. comes r y.reservation) os i x h p
+awaited_earlier r os i x h p = grind (arith, some_any, any_same, earlier_some, earlier_any)
 
 pub read_answered : (units channels : List (Option Issued)) (producers : List (List (Option Writer))) (ws : Writers)
     (last : ℕ) (u : FunctionalUnit) (i : ℕ) (x : Issued) (rs : List Reg) (ps : List (Option Writer)) (o : Option Reg)
@@ -230,15 +209,7 @@ left_from : (os : List (Option Issued)) (k : ℕ) → 10 ≤ k → IsInSlots slo
 unfolding somes slot_in slot_of is_reserved
 left_from [] k h s = tt
 left_from (None ∷ os) k h s = left_from os (suc k) (omega arith) s
-left_from (Some x ∷ os) k h s = (
-  by_occupancy x.reservation.unit x.reservation.occupancy s.0,
-  left_from os (suc k) (omega
-      arith) s.1,
-)
-  where
-    by_occupancy : (u : FunctionalUnit) (p : Occupancy) → slot_in u p ≡ k → is_reserved p ≡ false
-    by_occupancy u (Reserved b) e = absurd (let q = unit_below u in omega (arith, e, q, h))
-    by_occupancy u (Left o) e = refl
+left_from (Some x ∷ os) k h s = grind (arith, left_from os (suc k) (omega arith) s.1)
 
 somes-append : (xs ys : List (Option Issued)) → somes (xs ++ ys) ≡ somes xs ++ somes ys
 unfolding somes
@@ -250,42 +221,27 @@ pub none_any : (t : Issued → Bool) (ys : List Issued) → Each (λ y. t y ≡ 
 none_any t [] h = refl
 none_any t (y ∷ ys) h = ap (λ b. b || list_any t ys) h.0 ∙ none_any t ys h.1
 
--- a test that those in channels fail is a test of the units
+-- a test that is false for reservations in channels is a test of the units
 pub units_any : (t : Issued → Bool) (g : Option Issued → Bool) → g None ≡ false → ((x : Issued) → g (Some x) ≡ t x)
     → ((y : Issued) → is_reserved y.reservation.occupancy ≡ false → t y ≡ false)
     → (units channels : List (Option Issued))
     → length units ≡ 10 → IsInSlots slot_of 0 (units ++ channels)
     → list_any g units ≡ list_any t (somes (units ++ channels))
 units_any t g none some silent units channels l s =
-    any_somes t g none some units
-    ∙ sym (or_false (list_any t (somes units)))
-    ∙ ap (λ b. list_any t (somes units) || b)
-    (sym (none_any t (somes channels)
-    (each_map (λ y. is_reserved y.reservation.occupancy ≡ false) (λ y. t y ≡ false) silent (somes channels)
-    (left_from channels 10 (omega arith) (in_slots_back units channels 0 10 (omega (arith, l)) s)))))
-    ∙ sym (list_any-append t (somes units) (somes channels))
-    ∙ ap (list_any t) (sym (somes-append units channels))
+    grind (arith, any_somes, or_false, none_any, each_map, left_from, in_slots_back, somes-append, list_any-append)
 
 no_reads : (r : Reg) (y : Issued) → is_reserved y.reservation.occupancy ≡ false → reads_it r y.reservation ≡ false
 unfolding reads_it reads is_reserved reads_in is_in
-no_reads r y h = by_occupancy y.reservation.occupancy h
-  where
-    by_occupancy : (p : Occupancy) → is_reserved p ≡ false → is_in (reads_in (sources_of y.reservation.instr) p) r ≡ false
-    by_occupancy (Reserved b) k = cc
-    by_occupancy (Left o) k = refl
+no_reads r y h = grind arith
 
--- a register has still to be read by a unit with a lower number where an earlier one has still to read it
+-- an earlier reservation has yet to read a register exactly if a unit with a lower number has
 pub read_earlier : (r : Reg) (units channels : List (Option Issued)) (i : ℕ) (x : Issued) → length units ≡ 10
     → IsInSlots slot_of 0 (units ++ channels) → get_or (units ++ channels) i None ≡ Some x
     → Pairs IsOther (somes (units ++ channels))
     → list_any (slot_reads x.number r) units ≡ to_be_read reservation_of (before_slot number_of (units ++ channels) i
     x) r
 unfolding to_be_read number_of reservation_of slot_reads
-read_earlier r units channels i x l s h p =
-    units_any (λ y. ltb y.number x.number && reads_it r y.reservation) (slot_reads x.number r) refl (λ y. refl)
-    (λ y k. ap (λ b. ltb y.number x.number && b) (no_reads r y k) ∙ and_right (ltb y.number x.number) false refl) units
-    channels l s
-    ∙ earlier_any (λ y. reads_it r y.reservation) (units ++ channels) i x h p
+read_earlier r units channels i x l s h p = grind (arith, units_any, no_reads, earlier_any, and_right)
 
 pub store_answered : (units channels : List (Option Issued)) (producers : List (List (Option Writer))) (ws : Writers)
     (last : ℕ) (u : FunctionalUnit) (i : ℕ) (x : Issued) (rs : List Reg) (o : Option Reg)

@@ -1,9 +1,9 @@
--- Who writes a register: the first answer of a list, and what one reservation answers.
+-- The writer of a register: the first answer in a list, and the answer for one reservation.
 use Rattle.std.proofs.Common.{◌≡◌, ◌≤◌, ℕ, suc, Bool, true, false, cond, List, [], ◌∷◌, ◌++◌, Option, Some, None, refl}
 use Rattle.std.proofs.Common.{sym, ap, ◌∙◌, eqb, ltb, map, arith}
 use Rattle.std.specs.Prelude.{is_some, ◌&&◌, ◌||◌}
 use Rattle.std.specs.List.{list_any}
-use Rattle.std.proofs.lemmas.Bool.{eq-eqb, ne_eqb, lt-ltb}
+use Rattle.std.proofs.lemmas.Bool.{ne_eqb, lt-ltb}
 use Rattle.instructions.specs.declared.instr.Reg.{Reg}
 use Rattle.instructions.specs.declared.instr.Reg.TheVariants.{X, A, B}
 use Rattle.instructions.specs.declared.instr.Unit.{Unit as FunctionalUnit}
@@ -29,12 +29,7 @@ pub some_any : {M W : Type 0} (f : M → Option W) (xs : List M)
     → is_some (first_some f xs) ≡ list_any (λ x. is_some (f x)) xs
 unfolding first_some or_else
 some_any f [] = refl
-some_any {M} {W} f (x ∷ xs) = by_answer (f x) (some_any f xs)
-  where
-    by_answer : (o : Option W) → is_some (first_some f xs) ≡ list_any (λ y. is_some (f y)) xs
-        → is_some (or_else o (first_some f xs)) ≡ (is_some o || list_any (λ y. is_some (f y)) xs)
-    by_answer None e = e
-    by_answer (Some w) e = refl
+some_any {M} {W} f (x ∷ xs) = grind (arith, some_any f xs)
 
 pub first_same : {M W : Type 0} (f g : M → Option W) (xs : List M) → Each (λ x. f x ≡ g x) xs
     → first_some f xs ≡ first_some g xs
@@ -42,7 +37,7 @@ unfolding first_some
 first_same f g [] h = refl
 first_same f g (x ∷ xs) h = ap (λ o. or_else o (first_some f xs)) h.0 ∙ ap (or_else (g x)) (first_same f g xs h.1)
 
--- one of two answers at most
+-- at most one of the two answers
 abbrev pub IsAlone : {M W : Type 0} → (M → Option W) → M → M → Type 0
 IsAlone f x y = (is_some (f x) && is_some (f y)) ≡ false
 
@@ -53,7 +48,7 @@ swap None p q h = refl
 swap (Some v) None q h = refl
 swap (Some v) (Some w) q h = cc
 
--- where others answer only if it does not, its position does not matter
+-- if the others answer only when this one doesn't, its position doesn't matter
 pub first_at : {M W : Type 0} (f : M → Option W) (bs : List M) (x : M) (as_ : List M) → Each (IsAlone f x) bs
     → first_some f (bs ++ x ∷ as_) ≡ or_else (f x) (first_some f (bs ++ as_))
 unfolding first_some
@@ -67,39 +62,25 @@ unfolding first_some
 first_replaced f [] x y as_ h = ap (λ o. or_else o (first_some f as_)) h
 first_replaced f (b ∷ bs) x y as_ h = ap (or_else (f b)) (first_replaced f bs x y as_ h)
 
--- and where it answers, no other does
+-- if this one answers, no other does
 pub first_none : {M W : Type 0} (f : M → Option W) (x : M) (ys : List M) → Each (IsAlone f x) ys → is_some (f x) ≡ true
     → first_some f ys ≡ None
 unfolding first_some or_else
 first_none f x [] h e = refl
-first_none {M} {W} f x (y ∷ ys) h e = by_answer (f y) h.0 (first_none f x ys h.1 e)
-  where
-    by_answer : (o : Option W) → (is_some (f x) && is_some o) ≡ false → first_some f ys ≡ None
-        → or_else o (first_some f ys) ≡ None
-    by_answer None k i = i
-    by_answer (Some w) k i = let q : (is_some (f x) && true) ≡ true = ap (λ b. b && true) e in cc
+first_none {M} {W} f x (y ∷ ys) h e = grind (arith, first_none f x ys h.1 e)
 
 pub forget_first : {M : Type 0} (w : Writer) (f : M → Option Writer) (ys : List M)
     → Each (λ y. forget w (f y) ≡ f y) ys → forget w (first_some f ys) ≡ first_some f ys
 unfolding first_some or_else forget
 forget_first w f [] h = refl
-forget_first w f (y ∷ ys) h = by_answer (f y) h.0 (forget_first w f ys h.1)
-  where
-    by_answer : (o : Option Writer) → forget w o ≡ o → forget w (first_some f ys) ≡ first_some f ys
-        → forget w (or_else o (first_some f ys)) ≡ or_else o (first_some f ys)
-    by_answer None k i = i
-    by_answer (Some v) k i = k
+forget_first w f (y ∷ ys) h = grind (arith, forget_first w f ys h.1)
 
--- what is left when its writer has written
+-- the remaining answer, after its writer has written
 pub forgotten_rest : (w : Writer) (o rest : Option Writer) → (is_some o ≡ true → rest ≡ None) → forget w rest ≡ rest
     → or_else (forget w o) rest ≡ forget w (or_else o rest)
 unfolding or_else forget
 forgotten_rest w None rest h k = sym k
-forgotten_rest w (Some v) rest h k = by_test (same_writer v w)
-  where
-    by_test : (b : Bool) → or_else (cond b None (Some v)) rest ≡ cond b None (Some v)
-    by_test true = h refl
-    by_test false = refl
+forgotten_rest w (Some v) rest h k = grind arith
 
 -- ---- what one reservation answers ----
 
@@ -112,7 +93,7 @@ some_if : {W : Type 0} (b : Bool) (w : W) → is_some (cond b (Some w) None) ≡
 some_if true w = refl
 some_if false w = refl
 
--- who writes a register for one reservation, and what the reservation has still to put
+-- the writer of a register for one reservation, and the reservation's results still to come
 unfoldable writing : Unit {0}
 unfolding written_in written_by_channel channel_of to_come_in results sets_of loads_of is_in returning_to
 writing = tt
@@ -121,24 +102,14 @@ some_in : (r : Reg) (u : FunctionalUnit) (s : Shape) (p : Occupancy)
     → is_some (written_in r u s p) ≡ is_in (to_come_in s p) r
 unfolding writing
 some_in r u (Sets rs) (Reserved b) = some_if (is_in rs r) (OfUnit u) ∙ sym (in_nothing_more rs r)
-some_in r u (Loads n) (Reserved b) = by_tests (reg_eq r (A n)) (reg_eq r (X n))
-  where
-    by_tests : (p q : Bool) → is_some (cond (p || false) (Some (OfUnit u)) (cond q (Some (OfChannel n)) None))
-        ≡ (p || (q || false))
-    by_tests true q = refl
-    by_tests false true = refl
-    by_tests false false = refl
+some_in r u (Loads n) (Reserved b) = grind arith
 some_in r u (Stores n) (Reserved b) = some_if (is_in (A n ∷ []) r) (OfUnit u)
 some_in r u Jumps (Reserved b) = refl
 some_in r u Links (Reserved b) = refl
 some_in r u s (Left None) = refl
-some_in r u s (Left (Some n)) = by_test (reg_eq r (X n))
-  where
-    by_test : (q : Bool) → is_some (cond q (Some (OfChannel n)) None) ≡ (q || false)
-    by_test true = refl
-    by_test false = refl
+some_in r u s (Left (Some n)) = grind arith
 
--- somebody writes the register for it where it is a result still to come
+-- a register has a writer for the reservation exactly if it is one of its results still to come
 pub some_written : (r : Reg) (x : Issued) → is_some (written_by r x) ≡ comes r x.reservation
 unfolding written_by comes to_come
 some_written r x = some_in r x.reservation.unit (shape_of x.reservation.instr) x.reservation.occupancy
@@ -148,11 +119,7 @@ pub channel_no_unit : (u : FunctionalUnit) (r : Reg) (o : Option ℕ)
     → forget (OfUnit u) (written_by_channel r o) ≡ written_by_channel r o
 unfolding forget written_by_channel same_writer
 channel_no_unit u r None = refl
-channel_no_unit u r (Some n) = by_test (reg_eq r (X n))
-  where
-    by_test : (b : Bool) → forget (OfUnit u) (cond b (Some (OfChannel n)) None) ≡ cond b (Some (OfChannel n)) None
-    by_test true = refl
-    by_test false = refl
+channel_no_unit u r (Some n) = grind arith
 
 unit_kept_in : (u : FunctionalUnit) (r : Reg) (v : FunctionalUnit) (s : Shape) (p : Occupancy)
     → (slot_in v p ≡ unit_number u → ⊥) → forget (OfUnit u) (written_in r v s p) ≡ written_in r v s p
@@ -165,7 +132,7 @@ unit_kept_in u r v s (Reserved has_read) h = by_test (is_in (sets_of s) r)
     by_test false = channel_no_unit u r (channel_of s)
 unit_kept_in u r v s (Left o) h = channel_no_unit u r o
 
--- one in another slot than the unit's is not written by the unit
+-- a unit isn't the writer for a reservation in another slot
 pub unit_kept : (u : FunctionalUnit) (r : Reg) (y : Issued) → (slot_of y ≡ unit_number u → ⊥)
     → forget (OfUnit u) (written_by r y) ≡ written_by r y
 unfolding written_by slot_of
@@ -174,40 +141,20 @@ unit_kept u r y h = unit_kept_in u r y.reservation.unit (shape_of y.reservation.
 other_channel : (n m : ℕ) (r : Reg) → (eqb n m || false) ≡ false
     → forget (OfChannel n) (written_by_channel r (Some m)) ≡ written_by_channel r (Some m)
 unfolding forget written_by_channel same_writer
-other_channel n m r h = by_test (reg_eq r (X m))
-  where
-    ne : eqb m n ≡ false
-    ne = ne_eqb m n (λ e. let q : (eqb n m || false) ≡ true = ap (λ b. b || false) (eq-eqb n m (sym e)) in cc)
-
-    by_test : (b : Bool) → forget (OfChannel n) (cond b (Some (OfChannel m)) None) ≡ cond b (Some (OfChannel m)) None
-    by_test true = ap (λ b. cond b None (Some (OfChannel m))) ne
-    by_test false = refl
+other_channel n m r h = grind arith
 
 channel_kept_in : (n : ℕ) (r : Reg) (v : FunctionalUnit) (s : Shape) (p : Occupancy)
     → is_in (to_come_in s p) (X n) ≡ false → forget (OfChannel n) (written_in r v s p) ≡ written_in r v s p
 unfolding writing forget same_writer
-channel_kept_in n r v (Sets rs) (Reserved has_read) h = by_test (is_in rs r)
-  where
-    by_test : (b : Bool) → forget (OfChannel n) (cond b (Some (OfUnit v)) None) ≡ cond b (Some (OfUnit v)) None
-    by_test true = refl
-    by_test false = refl
-channel_kept_in n r v (Loads m) (Reserved has_read) h = by_test (is_in (A m ∷ []) r)
-  where
-    by_test : (b : Bool) → forget (OfChannel n) (cond b (Some (OfUnit v)) (written_by_channel r (Some m)))
-        ≡ cond b (Some (OfUnit v)) (written_by_channel r (Some m))
-    by_test true = refl
-    by_test false = other_channel n m r h
-channel_kept_in n r v (Stores m) (Reserved has_read) h = by_test (is_in (A m ∷ []) r)
-  where
-    by_test : (b : Bool) → forget (OfChannel n) (cond b (Some (OfUnit v)) None) ≡ cond b (Some (OfUnit v)) None
-    by_test true = refl
-    by_test false = refl
+channel_kept_in n r v (Sets rs) (Reserved has_read) h = grind arith
+channel_kept_in n r v (Loads m) (Reserved has_read) h = grind arith
+channel_kept_in n r v (Stores m) (Reserved has_read) h = grind arith
 channel_kept_in n r v Jumps (Reserved has_read) h = refl
 channel_kept_in n r v Links (Reserved has_read) h = refl
 channel_kept_in n r v s (Left None) h = refl
 channel_kept_in n r v s (Left (Some m)) h = other_channel n m r h
 
--- one that does not load Xn is not written by channel n
+-- channel n isn't the writer for a reservation that doesn't load Xn
 pub channel_kept : (n : ℕ) (r : Reg) (y : Issued) → comes (X n) y.reservation ≡ false
     → forget (OfChannel n) (written_by r y) ≡ written_by r y
 unfolding written_by comes to_come
@@ -216,31 +163,15 @@ channel_kept n r y h = channel_kept_in n r y.reservation.unit (shape_of y.reserv
 left_in : (u v : FunctionalUnit) (r : Reg) (s : Shape) (has_read : Bool) → same_unit v u ≡ true
     → written_by_channel r (channel_of s) ≡ forget (OfUnit u) (written_in r v s (Reserved has_read))
 unfolding forget written_in same_writer written_by_channel channel_of sets_of is_in
-left_in u v r (Sets rs) has_read h = by_test (is_in rs r)
-  where
-    by_test : (b : Bool) → None ≡ forget (OfUnit u) (cond b (Some (OfUnit v)) None)
-    by_test true = sym (ap (λ b. cond b None (Some (OfUnit v))) h)
-    by_test false = refl
-left_in u v (X m) (Loads n) has_read h = by_test (eqb m n)
-  where
-    by_test : (b : Bool) → cond b (Some (OfChannel n)) None ≡ forget (OfUnit u) (cond b (Some (OfChannel n)) None)
-    by_test true = refl
-    by_test false = refl
-left_in u v (A m) (Loads n) has_read h = by_test (eqb m n)
-  where
-    by_test : (b : Bool) → None ≡ forget (OfUnit u) (cond (b || false) (Some (OfUnit v)) None)
-    by_test true = sym (ap (λ b. cond b None (Some (OfUnit v))) h)
-    by_test false = refl
+left_in u v r (Sets rs) has_read h = grind arith
+left_in u v (X m) (Loads n) has_read h = grind arith
+left_in u v (A m) (Loads n) has_read h = grind arith
 left_in u v (B m) (Loads n) has_read h = refl
-left_in u v r (Stores n) has_read h = by_test (is_in (A n ∷ []) r)
-  where
-    by_test : (b : Bool) → None ≡ forget (OfUnit u) (cond b (Some (OfUnit v)) None)
-    by_test true = sym (ap (λ b. cond b None (Some (OfUnit v))) h)
-    by_test false = refl
+left_in u v r (Stores n) has_read h = grind arith
 left_in u v r Jumps has_read h = refl
 left_in u v r Links has_read h = refl
 
--- what is written for one that has left its unit
+-- the writer for a reservation that has left its unit
 pub left_written : (u : FunctionalUnit) (r : Reg) (x : Issued) (has_read : Bool)
     → x.reservation.occupancy ≡ Reserved has_read
     → same_unit x.reservation.unit u ≡ true
@@ -249,57 +180,34 @@ unfolding written_by
 left_written u r x has_read e h = left_in u x.reservation.unit r (shape_of x.reservation.instr) has_read h
     ∙ ap (λ p. forget (OfUnit u) (written_in r x.reservation.unit (shape_of x.reservation.instr) p)) (sym e)
 
--- and for one that has returned
+-- the writer for a load that has returned
 pub returned_written : (n : ℕ) (r : Reg) (x : Issued) → x.reservation.occupancy ≡ Left (Some n)
     → None ≡ forget (OfChannel n) (written_by r x)
 unfolding written_by written_in written_by_channel forget same_writer
-returned_written n r x e =
-    by_test (reg_eq r (X n)) ∙ ap (λ p. forget (OfChannel n) (written_in r x.reservation.unit (shape_of
-    x.reservation.instr) p)) (sym e)
-  where
-    by_test : (b : Bool) → None ≡ forget (OfChannel n) (cond b (Some (OfChannel n)) None)
-    by_test true = sym (ap (λ b. cond b None (Some (OfChannel n))) (eq-eqb n n refl))
-    by_test false = refl
+returned_written n r x e = grind arith
 
 -- ---- by number ----
 
 pub earlier_some : (n : ℕ) (r : Reg) (y : Issued)
     → is_some (if_earlier n (written_by r) y) ≡ (ltb y.number n && comes r y.reservation)
 unfolding if_earlier
-earlier_some n r y = by_test (ltb y.number n)
-  where
-    by_test : (b : Bool) → is_some (cond b (written_by r y) None) ≡ (b && comes r y.reservation)
-    by_test true = some_written r y
-    by_test false = refl
+earlier_some n r y = grind (arith, some_written)
 
 pub earlier_alone : (n : ℕ) (r : Reg) (x y : Issued) → (comes r x.reservation && comes r y.reservation) ≡ false
     → IsAlone (if_earlier n (written_by r)) x y
-earlier_alone n r x y h =
-    ap (λ b. b && is_some (if_earlier n (written_by r) y)) (earlier_some n r x)
-    ∙ ap (λ b. (ltb x.number n && comes r x.reservation) && b) (earlier_some n r y)
-    ∙ by_tests (ltb x.number n) (comes r x.reservation) (ltb y.number n) (comes r y.reservation) h
-  where
-    by_tests : (a b c d : Bool) → (b && d) ≡ false → ((a && b) && (c && d)) ≡ false
-    by_tests false b c d h = refl
-    by_tests true false c d h = refl
-    by_tests true true false d h = refl
-    by_tests true true true d h = h
+earlier_alone n r x y h = grind (arith, earlier_some)
 
 pub earlier_forget : (w : Writer) (n : ℕ) (r : Reg) (y : Issued) → forget w (written_by r y) ≡ written_by r y
     → forget w (if_earlier n (written_by r) y) ≡ if_earlier n (written_by r) y
 unfolding if_earlier forget
-earlier_forget w n r y h = by_test (ltb y.number n)
-  where
-    by_test : (b : Bool) → forget w (cond b (written_by r y) None) ≡ cond b (written_by r y) None
-    by_test true = h
-    by_test false = refl
+earlier_forget w n r y h = grind arith
 
 pub earlier_at : (last : ℕ) (r : Reg) (y : Issued) → y.number ≤ last
     → if_earlier (suc last) (written_by r) y ≡ written_by r y
 unfolding if_earlier
 earlier_at last r y h = ap (λ b. cond b (written_by r y) None) (lt-ltb y.number (suc last) (omega arith))
 
--- among those with a number up to the last all are earlier than the next
+-- all reservations with numbers up to the last are earlier than the next
 pub all_earlier : (last : ℕ) (r : Reg) (xs : List Issued) → Each (λ x. x.number ≤ last) xs
     → writer_before (suc last) xs r ≡ writer_of xs r
 unfolding writer_before writer_of

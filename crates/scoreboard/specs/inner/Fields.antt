@@ -29,6 +29,13 @@ unfoldable pub slot_has_turn : ℕ → Option Issued → Bool
 slot_has_turn n None = false
 slot_has_turn n (Some x) = nat_lt x.number n && has_turn x.reservation
 
+-- the first register with a writer; the writers are in the order of the registers
+unfoldable pub first_produced : List Reg → List (Option Writer) → Option Reg
+first_produced [] ps = None
+first_produced (r ∷ rs) [] = None
+first_produced (r ∷ rs) (None ∷ ps) = first_produced rs ps
+first_produced (r ∷ rs) (Some w ∷ ps) = Some r
+
 -- the content of the unit's slot
 abbrev pub slot_at : List (Option Issued) → FunctionalUnit → Option Issued
 slot_at units unit = slice_index_or units (unit_number unit) None

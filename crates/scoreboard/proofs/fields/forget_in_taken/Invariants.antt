@@ -1,4 +1,4 @@
--- The writer is forgotten where the units up to the index are taken, the rest is as it was.
+-- The writer is removed for the held units up to the index, and the rest is unchanged.
 use Rattle.std.proofs.Common.{◌≡◌, take}
 use Rattle.scoreboard.specs.inner.Fields.{forget_in_taken}
 use Rattle.scoreboard.proofs.fields.forget_in_taken.Given as goal

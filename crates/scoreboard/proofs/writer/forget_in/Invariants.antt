@@ -1,4 +1,4 @@
--- The writer is forgotten up to the index, the rest is as it was.
+-- The writer is removed up to the index, and the rest is unchanged.
 use Rattle.std.proofs.Common.{◌≡◌, ◌++◌, map, take, drop}
 use Rattle.scoreboard.specs.Writers.{forget}
 use Rattle.scoreboard.proofs.writer.forget_in.Given as goal

@@ -1,4 +1,5 @@
--- Whether Branch or an Increment unit has a reference to make, as the list says it.
+-- Whether an instruction in Branch or in an Increment unit has a reference still to make, compared with the board's
+-- list.
 use Rattle.std.proofs.Common.{ap, ◌∙◌}
 use Rattle.std.specs.List.{list_any}
 use Rattle.scoreboard.specs.Reservations.{has_turn}

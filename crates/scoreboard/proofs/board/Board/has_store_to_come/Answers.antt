@@ -1,4 +1,4 @@
--- Whether an Increment unit has an SA6 or SA7, as the list says it.
+-- Whether an Increment unit holds an SA6 or SA7, compared with the board's list.
 use Rattle.std.proofs.Common.{ap, sym, ◌∙◌, arith}
 use Rattle.std.specs.Prelude.{◌||◌}
 use Rattle.std.specs.List.{list_any}

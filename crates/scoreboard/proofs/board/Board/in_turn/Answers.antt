@@ -1,10 +1,8 @@
--- The turn of references: the units with a lower number, as the list says it.
+-- The turn of references: reservations with a lower number, compared with the board's list.
 use Rattle.scoreboard.proofs.in_slots.Small.{index_of, index_is, index_below}
-use Rattle.std.proofs.Common.{◌≡◌, rules, tests, ap, sym, ◌∙◌, get_or, true, false, arith}
+use Rattle.std.proofs.Common.{ap, sym, ◌∙◌, get_or, true, false, arith}
 use Rattle.std.specs.Prelude.{◌&&◌}
 use Rattle.std.specs.List.{list_any}
-use Rattle.std.proofs.lemmas.Iterator.{YieldsList-from_slice}
-use Rattle.std.proofs.lemmas.Iterator.Search.{any_from_yields_List}
 use Rattle.instructions.specs.Finding.{seek}
 use Rattle.instructions.proofs.Slots.{slot_any}
 use Rattle.scoreboard.specs.Answers.{Standing, turn_answer, held_in}
@@ -36,30 +34,24 @@ returns-then-is_none c =
     (used_refers _ _ _ true c.memory.ensures c.is_none.ensures c.if-is_none.true)))
     ∙ ap (λ (s : Standing). turn_answer (seek (held_in c.args.unit) s.issued)) c.self.view_is
 
-pub returns-then-waits : goal.returns-then-waits
-returns-then-waits c =
-    let h : c.any-waits.result ≡ list_any (slot_has_turn c.in-Some.issued.number) c.self.inside.units =
-    any_from_yields_List _ _ _ _ c.any-waits.ensures.ran (YieldsList-from_slice c.self.inside.units cc)
-    (λ x b q k. search (rules, tests)) in
+pub returns-then-has_earlier_reference : goal.returns-then-has_earlier_reference
+returns-then-has_earlier_reference c =
     turn_answered c.self.inside.units c.self.inside.channels c.self.inside.producers c.self.inside.writers
     c.self.inside.last c.args.unit (index_of c.args.unit) c.in-Some.issued true c.self.invariant
     (index_is c.args.unit)
     (slot_any c.self.inside.units (index_of c.args.unit) c.index-self-index.result
     (omega (arith, index_below c.args.unit, c.self.invariant.all_units)) ∙ c.in-Some.is)
     (sym (ap (λ b. b && list_any (slot_has_turn c.in-Some.issued.number) c.self.inside.units)
-    (used_refers _ _ _ false c.memory.ensures c.is_none.ensures c.if-is_none.false) ∙ (sym h ∙ c.if-waits.true)))
+    (used_refers _ _ _ false c.memory.ensures c.is_none.ensures c.if-is_none.false) ∙ (sym c.has_earlier_reference.ensures ∙ c.if-has_earlier_reference.true)))
     ∙ ap (λ (s : Standing). turn_answer (seek (held_in c.args.unit) s.issued)) c.self.view_is
 
-pub returns-else-waits : goal.returns-else-waits
-returns-else-waits c =
-    let h : c.any-waits.result ≡ list_any (slot_has_turn c.in-Some.issued.number) c.self.inside.units =
-    any_from_yields_List _ _ _ _ c.any-waits.ensures.ran (YieldsList-from_slice c.self.inside.units cc)
-    (λ x b q k. search (rules, tests)) in
+pub returns-else-has_earlier_reference : goal.returns-else-has_earlier_reference
+returns-else-has_earlier_reference c =
     turn_answered c.self.inside.units c.self.inside.channels c.self.inside.producers c.self.inside.writers
     c.self.inside.last c.args.unit (index_of c.args.unit) c.in-Some.issued false c.self.invariant
     (index_is c.args.unit)
     (slot_any c.self.inside.units (index_of c.args.unit) c.index-self-index.result
     (omega (arith, index_below c.args.unit, c.self.invariant.all_units)) ∙ c.in-Some.is)
     (sym (ap (λ b. b && list_any (slot_has_turn c.in-Some.issued.number) c.self.inside.units)
-    (used_refers _ _ _ false c.memory.ensures c.is_none.ensures c.if-is_none.false) ∙ (sym h ∙ c.if-waits.false)))
+    (used_refers _ _ _ false c.memory.ensures c.is_none.ensures c.if-is_none.false) ∙ (sym c.has_earlier_reference.ensures ∙ c.if-has_earlier_reference.false)))
     ∙ ap (λ (s : Standing). turn_answer (seek (held_in c.args.unit) s.issued)) c.self.view_is

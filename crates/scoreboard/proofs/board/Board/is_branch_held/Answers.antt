@@ -1,4 +1,4 @@
--- Whether Branch is taken, as the list says it.
+-- Whether Branch is held, compared with the board's list.
 use Rattle.std.proofs.Common.{ap, sym, ◌∙◌, Option, arith}
 use Rattle.std.specs.Prelude.{is_some}
 use Rattle.std.specs.List.{list_any}

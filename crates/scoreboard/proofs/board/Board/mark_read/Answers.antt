@@ -1,4 +1,4 @@
--- A read: the invariant and the list after it, and that a free unit changes nothing.
+-- A read: the invariant and the list after it. For a free unit nothing changes.
 use Rattle.scoreboard.proofs.in_slots.Small.{index_of, index_is, index_below}
 use Rattle.std.proofs.Common.{ap, sym, ◌∙◌, subst, arith}
 use Rattle.std.proofs.lemmas.List.{set-get_or}

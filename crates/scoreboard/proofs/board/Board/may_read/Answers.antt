@@ -1,16 +1,16 @@
--- Second order: the producers of the unit, as the list says it.
+-- Second order: the producers recorded for the unit, compared with the board's list.
 use Rattle.scoreboard.proofs.in_slots.Small.{index_of, index_is, index_below}
 use Rattle.std.proofs.Common.{◌≡◌, rules, tests, ap, refl, sym, ◌∙◌, Some, None, get_or, arith}
-use Rattle.std.specs.Prelude.{is_some, option_map}
+use Rattle.std.specs.Prelude.{is_some}
 use Rattle.std.specs.List.{list_any}
-use Rattle.std.proofs.lemmas.Iterator.{YieldsList-from_slice, YieldsList-from_zip}
-use Rattle.std.proofs.lemmas.Iterator.Search.{any_from_yields_List, find_from_yields_List}
+use Rattle.std.proofs.lemmas.Iterator.{YieldsList-from_slice}
+use Rattle.std.proofs.lemmas.Iterator.Search.{any_from_yields_List}
 use Rattle.instructions.specs.Finding.{seek}
 use Rattle.instructions.specs.Operands.{sources_of}
 use Rattle.scoreboard.specs.Answers.{Standing, read_answer, held_in}
 use Rattle.instructions.proofs.Slots.{slot_any}
 use Rattle.scoreboard.proofs.in_slots.Standing.{nobody_answers, read_answered, from_found, no_slot, list_read}
-use Rattle.scoreboard.proofs.in_slots.Small.{none_produced, produced_in_zip}
+use Rattle.scoreboard.proofs.in_slots.Small.{none_produced}
 use Rattle.scoreboard.proofs.board.Board.may_read.Goals as goal
 
 pub returns-in_default : goal.returns-in_default
@@ -43,31 +43,23 @@ returns-then-not-any c =
     (sym h ∙ c.if-not-any.true))
     ∙ ap (λ (s : Standing). read_answer (seek (held_in c.args.unit) s.issued)) c.self.view_is
 
-pub returns-in-Some-find : goal.returns-in-Some-find
+pub returns-in-Some-first_with_writer : goal.returns-in-Some-first_with_writer
 unfolding from_found
-returns-in-Some-find c =
-    let found = find_from_yields_List (λ p. is_some p.1) c.find.new.self _ _ c.find.ensures.ran
-    (YieldsList-from_zip (YieldsList-from_slice c.as_slice.result.now cc)
-    (YieldsList-from_slice c.index-producers-index.result cc)) (λ x b q k. search (rules, tests)) in
+returns-in-Some-first_with_writer c =
     read_answered c.self.inside.units c.self.inside.channels c.self.inside.producers c.self.inside.writers
     c.self.inside.last c.args.unit (index_of c.args.unit) c.in-Some.issued c.as_slice.result.now
-    c.index-producers-index.result (Some c.in-Some-find.register.now) c.self.invariant (index_is c.args.unit)
+    c.index-producers-index.result (Some c.in-Some-first_with_writer.register) c.self.invariant (index_is c.args.unit)
     (slot_any c.self.inside.units (index_of c.args.unit) c.index-self-index.result
     (omega (arith, index_below c.args.unit, c.self.invariant.all_units))
     ∙ c.in-Some.is) (c.as_slice.ensures.value
     ∙ c.sources-sources.ensures) (list_read c.self.inside.producers (index_of c.args.unit)
     c.index-producers-index.result (omega (arith, index_below c.args.unit, c.self.invariant.all_producers))
-    c.index-producers-index.is) (produced_in_zip c.as_slice.result.now c.index-producers-index.result
-    (Some (c.in-Some-find.register.now, c.in-Some-find.field-0-1.now))
-    (sym (ap (option_map (λ p. (p.0.now, p.1.now))) c.in-Some-find.is) ∙ found))
+    c.index-producers-index.is) (sym c.in-Some-first_with_writer.is ∙ c.first_with_writer.ensures)
     ∙ ap (λ (s : Standing). read_answer (seek (held_in c.args.unit) s.issued)) c.self.view_is
 
 pub returns-in-None : goal.returns-in-None
 unfolding from_found
 returns-in-None c =
-    let found = find_from_yields_List (λ p. is_some p.1) c.find.new.self _ _ c.find.ensures.ran
-    (YieldsList-from_zip (YieldsList-from_slice c.as_slice.result.now cc)
-    (YieldsList-from_slice c.index-producers-index.result cc)) (λ x b q k. search (rules, tests)) in
     read_answered c.self.inside.units c.self.inside.channels c.self.inside.producers c.self.inside.writers
     c.self.inside.last c.args.unit (index_of c.args.unit) c.in-Some.issued c.as_slice.result.now
     c.index-producers-index.result None c.self.invariant (index_is c.args.unit)
@@ -76,6 +68,5 @@ returns-in-None c =
     ∙ c.in-Some.is) (c.as_slice.ensures.value
     ∙ c.sources-sources.ensures) (list_read c.self.inside.producers (index_of c.args.unit)
     c.index-producers-index.result (omega (arith, index_below c.args.unit, c.self.invariant.all_producers))
-    c.index-producers-index.is) (produced_in_zip c.as_slice.result.now c.index-producers-index.result None
-    (sym (ap (option_map (λ p. (p.0.now, p.1.now))) c.in-None.is) ∙ found))
+    c.index-producers-index.is) (sym c.in-None.is ∙ c.first_with_writer.ensures)
     ∙ ap (λ (s : Standing). read_answer (seek (held_in c.args.unit) s.issued)) c.self.view_is

@@ -1,7 +1,5 @@
--- Third order at a return: the units with a lower number, as the list says it.
-use Rattle.std.proofs.Common.{◌≡◌, rules, tests, ap, sym, ◌∙◌, None, get_or, true, false, arith}
-use Rattle.std.proofs.lemmas.Iterator.{YieldsList-from_slice}
-use Rattle.std.proofs.lemmas.Iterator.Search.{any_from_yields_List}
+-- Third order at a return: reservations with a lower number, compared with the board's list.
+use Rattle.std.proofs.Common.{ap, sym, ◌∙◌, None, get_or, true, false, arith}
 use Rattle.std.specs.List.{list_any}
 use Rattle.instructions.specs.Finding.{seek}
 use Rattle.scoreboard.specs.Answers.{Standing, return_answer, returning_by, unless}
@@ -24,12 +22,8 @@ returns-in_default c =
     ∙ no_slot (get_or c.self.inside.channels c.from.result c.index-self-from.result) c.in_default.not-Some)))
     ∙ ap (λ (s : Standing). return_answer c.args.channel (seek (returning_by c.args.channel) s.issued)) c.self.view_is
 
-pub returns-then-is_read : goal.returns-then-is_read
-returns-then-is_read c =
-    let h : c.any-is_read.result ≡ list_any (slot_reads c.in-Some.load.number (X c.digit.result))
-    c.self.inside.units =
-    any_from_yields_List _ _ _ _ c.any-is_read.ensures.ran (YieldsList-from_slice c.self.inside.units cc)
-    (λ x b q k. search (rules, tests)) in
+pub returns-then-is_still_read : goal.returns-then-is_still_read
+returns-then-is_still_read c =
     ap (λ k. unless true (ResultHeld (X k))) c.digit.ensures
     ∙ return_answered c.self.inside.units c.self.inside.channels c.self.inside.producers c.self.inside.writers
     c.self.inside.last c.args.channel c.in-Some.load true c.self.invariant c.requires
@@ -37,22 +31,18 @@ returns-then-is_read c =
     ∙ slot_any c.self.inside.channels c.from.result c.index-self-from.result
     (omega (arith, c.requires, c.from.ensures, c.self.invariant.all_channels))
     ∙ c.in-Some.is)
-    (sym c.if-is_read.true ∙ h
+    (sym c.if-is_still_read.true ∙ c.is_still_read.ensures
     ∙ ap (λ k. list_any (slot_reads c.in-Some.load.number (X k)) c.self.inside.units) c.digit.ensures)
     ∙ ap (λ (s : Standing). return_answer c.args.channel (seek (returning_by c.args.channel) s.issued)) c.self.view_is
 
-pub returns-else-is_read : goal.returns-else-is_read
-returns-else-is_read c =
-    let h : c.any-is_read.result ≡ list_any (slot_reads c.in-Some.load.number (X c.digit.result))
-    c.self.inside.units =
-    any_from_yields_List _ _ _ _ c.any-is_read.ensures.ran (YieldsList-from_slice c.self.inside.units cc)
-    (λ x b q k. search (rules, tests)) in
+pub returns-else-is_still_read : goal.returns-else-is_still_read
+returns-else-is_still_read c =
     return_answered c.self.inside.units c.self.inside.channels c.self.inside.producers c.self.inside.writers
     c.self.inside.last c.args.channel c.in-Some.load false c.self.invariant c.requires
     (ap (λ k. get_or c.self.inside.channels k None) (sym c.from.ensures)
     ∙ slot_any c.self.inside.channels c.from.result c.index-self-from.result
     (omega (arith, c.requires, c.from.ensures, c.self.invariant.all_channels))
     ∙ c.in-Some.is)
-    (sym c.if-is_read.false ∙ h
+    (sym c.if-is_still_read.false ∙ c.is_still_read.ensures
     ∙ ap (λ k. list_any (slot_reads c.in-Some.load.number (X k)) c.self.inside.units) c.digit.ensures)
     ∙ ap (λ (s : Standing). return_answer c.args.channel (seek (returning_by c.args.channel) s.issued)) c.self.view_is

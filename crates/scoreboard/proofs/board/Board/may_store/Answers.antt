@@ -1,10 +1,8 @@
--- Third order at a store event: the units with a lower number, as the list says it.
+-- Third order at a store event: reservations with a lower number, compared with the board's list.
 use Rattle.scoreboard.proofs.in_slots.Small.{index_of, index_is, index_below}
 use Rattle.std.specs.Prelude.{option_to_list, find}
 use Rattle.std.specs.List.{list_any}
-use Rattle.std.proofs.Common.{◌≡◌, rules, tests, cond, Some, None, ap, sym, ◌∙◌, get_or, arith}
-use Rattle.std.proofs.lemmas.Iterator.{YieldsList-from_slice}
-use Rattle.std.proofs.lemmas.Iterator.Search.{any_from_yields_List}
+use Rattle.std.proofs.Common.{cond, Some, None, ap, sym, ◌∙◌, get_or, arith}
 use Rattle.scoreboard.specs.inner.Fields.{slot_reads}
 use Rattle.instructions.specs.Finding.{seek}
 use Rattle.scoreboard.specs.Answers.{Standing, store_answer, held_in}
@@ -37,38 +35,30 @@ returns-in_default-sets c =
     (sym c.in_default-sets.is))
     ∙ ap (λ (s : Standing). store_answer (seek (held_in c.args.unit) s.issued)) c.self.view_is
 
-pub returns-then-is_held : goal.returns-then-is_held
+pub returns-then-is_still_read : goal.returns-then-is_still_read
 unfolding from_found
-returns-then-is_held c =
-    let h : c.any-is_held.result ≡ list_any (slot_reads c.in-Some.issued.number c.in-Some-sets.register)
-    c.self.inside.units =
-    any_from_yields_List _ _ _ _ c.any-is_held.ensures.ran (YieldsList-from_slice c.self.inside.units cc)
-    (λ x b q k. search (rules, tests)) in
+returns-then-is_still_read c =
     store_answered c.self.inside.units c.self.inside.channels c.self.inside.producers c.self.inside.writers
     c.self.inside.last c.args.unit (index_of c.args.unit) c.in-Some.issued (option_to_list c.sets.result)
     (Some c.in-Some-sets.register) c.self.invariant (index_is c.args.unit)
     (slot_any c.self.inside.units (index_of c.args.unit) c.index-self-index.result
     (omega (arith, index_below c.args.unit, c.self.invariant.all_units))
     ∙ c.in-Some.is) (sym c.sets.ensures)
-    (ap (λ b. cond b (Some c.in-Some-sets.register) None) (sym c.if-is_held.true ∙ h)
+    (ap (λ b. cond b (Some c.in-Some-sets.register) None) (sym c.if-is_still_read.true ∙ c.is_still_read.ensures)
     ∙ ap (λ o. find (λ r. list_any (slot_reads c.in-Some.issued.number r) c.self.inside.units) (option_to_list o))
     (sym c.in-Some-sets.is))
     ∙ ap (λ (s : Standing). store_answer (seek (held_in c.args.unit) s.issued)) c.self.view_is
 
-pub returns-else-is_held : goal.returns-else-is_held
+pub returns-else-is_still_read : goal.returns-else-is_still_read
 unfolding from_found
-returns-else-is_held c =
-    let h : c.any-is_held.result ≡ list_any (slot_reads c.in-Some.issued.number c.in-Some-sets.register)
-    c.self.inside.units =
-    any_from_yields_List _ _ _ _ c.any-is_held.ensures.ran (YieldsList-from_slice c.self.inside.units cc)
-    (λ x b q k. search (rules, tests)) in
+returns-else-is_still_read c =
     store_answered c.self.inside.units c.self.inside.channels c.self.inside.producers c.self.inside.writers
     c.self.inside.last c.args.unit (index_of c.args.unit) c.in-Some.issued (option_to_list c.sets.result)
     None c.self.invariant (index_is c.args.unit)
     (slot_any c.self.inside.units (index_of c.args.unit) c.index-self-index.result
     (omega (arith, index_below c.args.unit, c.self.invariant.all_units))
     ∙ c.in-Some.is) (sym c.sets.ensures)
-    (ap (λ b. cond b (Some c.in-Some-sets.register) None) (sym c.if-is_held.false ∙ h)
+    (ap (λ b. cond b (Some c.in-Some-sets.register) None) (sym c.if-is_still_read.false ∙ c.is_still_read.ensures)
     ∙ ap (λ o. find (λ r. list_any (slot_reads c.in-Some.issued.number r) c.self.inside.units) (option_to_list o))
     (sym c.in-Some-sets.is))
     ∙ ap (λ (s : Standing). store_answer (seek (held_in c.args.unit) s.issued)) c.self.view_is

@@ -1,4 +1,4 @@
--- A store event: the invariant and the list after it, and that a free unit changes nothing.
+-- A store event: the invariant and the list after it. For a free unit nothing changes.
 use Rattle.scoreboard.proofs.in_slots.Small.{index_of, index_is, index_below}
 use Rattle.std.proofs.Common.{rules, ◌≡◌, ◌<◌, List, ◌++◌, Option, None, ap, sym, ◌∙◌, subst, set, arith}
 use Rattle.std.specs.Prelude.{IfSome}

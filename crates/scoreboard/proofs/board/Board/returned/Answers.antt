@@ -1,4 +1,4 @@
--- A return: the invariant and the list after it, and that an empty channel changes nothing.
+-- A return: the invariant and the list after it. For an empty channel nothing changes.
 use Rattle.std.proofs.Common.{rules, ap, sym, ◌∙◌, ◌++◌, subst, None, get_or, set, arith}
 use Rattle.instructions.specs.declared.instr.Reg.TheVariants.{X}
 use Rattle.scoreboard.specs.declared.writer.Writer.TheVariants.{OfChannel}

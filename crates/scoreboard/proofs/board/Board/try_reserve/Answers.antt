@@ -1,4 +1,4 @@
--- An issue: the new reservation, and the invariant and the list after it.
+-- An issue: the new reservation, the invariant and the list after it.
 use Rattle.scoreboard.proofs.in_slots.Small.{index_of, index_is}
 use Rattle.std.proofs.Common.{◌≡◌, ◌<◌, rules, ap, refl, sym, ◌∙◌, subst}
 use Rattle.std.specs.Prelude.{Ok, IfSome}

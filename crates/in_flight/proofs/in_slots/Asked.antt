@@ -1,0 +1,53 @@
+-- A question that only the item in one slot answers: the item that the search finds, and its replacement.
+use Rattle.std.proofs.Common.{◌≡◌, ◌≢◌, ℕ, List, ◌++◌, Option, Some, None, sym, ap, ◌∙◌, get_or, set, arith}
+use Rattle.instructions.specs.Finding.{seek, put_back, replaced}
+use Rattle.instructions.specs.Order.{sort_by, somes, IsInSlots}
+use Rattle.instructions.proofs.Lists.{each_map}
+use Rattle.instructions.proofs.Slots.{HasOwnKeys, in_slots_others, in_slots_nobody, in_slots_here}
+use Rattle.instructions.proofs.Slots.{before_slot, after_slot, found_there, found_nobody}
+
+-- the item in this slot answers the question, and no other item does
+pub record IsOfSlot {K W : Type 0} (slot_of : K → ℕ) (ask : K → Option W) (slot : ℕ) : Type 0 where
+  pub here : (m : K) → slot_of m ≡ slot → (x : W) × (ask m ≡ Some x)
+  pub others : (m : K) → slot_of m ≢ slot → ask m ≡ None
+
+-- each item is in its own slot, and no two items have the same number
+pub record AreSlots {K : Type 0} (slot_of key : K → ℕ) (os : List (Option K)) : Type 0 where
+  pub stands : IsInSlots slot_of 0 os
+  pub own : HasOwnKeys key (somes os)
+
+pub asked_found : {K W : Type 0} (slot_of key : K → ℕ) (ask : K → Option W) (os : List (Option K)) (i : ℕ) (m : K)
+    → IsOfSlot slot_of ask i → AreSlots slot_of key os → get_or os i None ≡ Some m → (x : W) × (ask m ≡ Some x)
+    × (seek ask (sort_by key (somes os))
+    ≡ Some (record { earlier = before_slot key os i m; item = m; answer = x; later = after_slot key os i m }))
+asked_found slot_of key ask os i m q s h =
+    let a = q.here m (in_slots_here slot_of os 0 i m h s.stands ∙ omega arith) in (
+      a.0,
+      a.1,
+      found_there key ask os i m a.0 h s.own a.1
+          (each_map (λ y. slot_of y ≢ i) (λ y. ask y ≡ None) (λ y k. q.others y k) (somes (set os i None))
+          (in_slots_others slot_of os 0 i i (omega arith) s.stands)),
+    )
+
+pub asked_nobody : {K W : Type 0} (slot_of key : K → ℕ) (ask : K → Option W) (os : List (Option K)) (i : ℕ)
+    → IsOfSlot slot_of ask i → AreSlots slot_of key os → get_or os i None ≡ None
+    → seek ask (sort_by key (somes os)) ≡ None
+asked_nobody slot_of key ask os i q s h =
+    found_nobody key ask os (each_map (λ y. slot_of y ≢ i) (λ y. ask y ≡ None) (λ y k. q.others y k) (somes os)
+    (in_slots_nobody slot_of os i h s.stands))
+
+-- replacing the item at its position is replacing it in the list
+pub asked_view : {K W : Type 0} (slot_of key : K → ℕ) (ask : K → Option W) (os : List (Option K)) (i : ℕ) (m : K)
+    (g : K → List K) (ms : List K) → IsOfSlot slot_of ask i → AreSlots slot_of key os → get_or os i None ≡ Some m
+    → ms ≡ before_slot key os i m ++ (g m ++ after_slot key os i m)
+    → ms ≡ replaced (seek ask (sort_by key (somes os))) (sort_by key (somes os)) g
+unfolding replaced put_back
+asked_view slot_of key ask os i m g ms q s h e =
+    e ∙ ap (λ o. replaced o (sort_by key (somes os)) g) (sym (asked_found slot_of key ask os i m q s h).2)
+
+pub nobody_view : {K W : Type 0} (slot_of key : K → ℕ) (ask : K → Option W) (os : List (Option K)) (i : ℕ)
+    (g : K → List K) → IsOfSlot slot_of ask i → AreSlots slot_of key os → get_or os i None ≡ None
+    → sort_by key (somes os) ≡ replaced (seek ask (sort_by key (somes os))) (sort_by key (somes os)) g
+unfolding replaced
+nobody_view slot_of key ask os i g q s h =
+    ap (λ o. replaced o (sort_by key (somes os)) g) (sym (asked_nobody slot_of key ask os i q s h))
