@@ -1,3 +1,5 @@
+//! The lines of reserved registers and of operands that are still to be read.
+
 ghost use Rattle.std.specs.Prelude.{◌≡◌, find};
 ghost use Rattle.std.specs.List.{flat_map};
 ghost use Rattle.device_text.specs.Putting.{Puts};

@@ -1,3 +1,5 @@
+//! The opcode digit of each operation, for the instructions that cover several opcodes.
+
 ghost use Rattle.std.specs.Prelude.{◌≡◌, ◌<◌};
 ghost use Rattle.instructions.specs.Operations.{x_code, b_code, logic_code, direction_code, addition_code, target_code};
 ghost use Rattle.instructions.specs.Operations.{base_code, pair_code};

@@ -31,29 +31,8 @@ impl ProgramFault {
                 Status::Usage,
             ProgramFault::Refused(Refusal::OutOfMemory) => Status::OutOfMemory,
             ProgramFault::Refused(Refusal::Read | Refusal::Write) => Status::Device,
-            ProgramFault::Refused(
-                Refusal::Halted(_)
-                | Refusal::Faulted
-                | Refusal::Budget
-                | Refusal::BranchPending
-                | Refusal::ExchangeWaiting
-                | Refusal::FetchWait
-                | Refusal::UnitBusy(_)
-                | Refusal::ResultReserved(_)
-                | Refusal::OperandAwaited(_)
-                | Refusal::ResultHeld(_)
-                | Refusal::HopperFull
-                | Refusal::OutOfTurn
-                | Refusal::BankBusy(_)
-                | Refusal::OlderAtAddress
-                | Refusal::Nothing
-                | Refusal::Stranger
-                | Refusal::ExchangeBusy
-                | Refusal::NotDrained
-                | Refusal::MemorySize
-                | Refusal::MidWord
-                | Refusal::PeripheralWait,
-            ) => Status::Running,
+            // `from` makes `Stuck` of every other refusal.
+            ProgramFault::Refused(_) => Status::Running,
             ProgramFault::BadLog => Status::Usage,
             ProgramFault::Stuck => Status::Running,
         };
@@ -67,6 +46,7 @@ impl From<Refusal> for ProgramFault {
     ghost from_gives = { λ refusal fault. fault ≡ fault_of refusal };
 
     fn from(refusal: Refusal) -> ProgramFault {
+        // All refusals are listed, so that a new one has to be sorted here.
         match refusal {
             Refusal::Deck { .. }
             | Refusal::PackageRange

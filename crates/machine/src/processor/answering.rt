@@ -1,3 +1,5 @@
+//! The answer that an event would get, without making it.
+
 ghost use Rattle.std.specs.Prelude.{◌≡◌};
 ghost use Rattle.program_order.specs.declared.event.Event.TheVariants.{BankFree, Issue, PpRead};
 ghost use Rattle.program_order.specs.Run.{answer_of};

@@ -1,3 +1,5 @@
+//! The events of exchanges: `Ask` and `Exchange`.
+
 ghost use Rattle.std.specs.Prelude.{◌≡◌, true, [], ◌∷◌, IfErr};
 ghost use Rattle.program_order.specs.declared.event.Event.TheVariants.{Ask, Exchange};
 ghost use Rattle.program_order.specs.Processor.{completed};

@@ -1,3 +1,5 @@
+//! The event `Issue`.
+
 ghost use Rattle.std.specs.Prelude.{◌≡◌, true, [], ◌∷◌, IfErr, Option, Ok};
 ghost use Rattle.sequential.specs.Replay.{boot};
 ghost use Rattle.sequential.specs.UnitIssues.{taken};

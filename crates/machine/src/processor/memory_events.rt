@@ -1,3 +1,5 @@
+//! The events of memory: `Accept`, `Return` and `BankFree`.
+
 ghost use Rattle.std.specs.Prelude.{◌≡◌, true, [], ◌∷◌, IfErr};
 ghost use Rattle.program_order.specs.declared.event.Event.TheVariants.{Accept, Return, BankFree};
 ghost use Rattle.program_order.specs.Reached.{GoesOn};

@@ -1,3 +1,5 @@
+//! The events of peripheral processors: `PpRead` and `PpWrite`.
+
 ghost use Rattle.std.specs.Prelude.{◌≡◌, true, [], ◌∷◌, IfErr, Ok, slice_index_or};
 ghost use Rattle.program_order.specs.declared.event.Done.{Done as SomeDone};
 ghost use Rattle.program_order.specs.declared.event.Done.TheVariants.{Word};

@@ -1,3 +1,5 @@
+//! The events of a unit: `Read`, `Finish` and `Store`.
+
 ghost use Rattle.std.specs.Prelude.{◌≡◌, IfOk, MatchResult};
 ghost use Rattle.program_order.specs.declared.event.Event.TheVariants.{Read, Finish, Store};
 ghost use Rattle.program_order.specs.Run.{answer_of, settled};
