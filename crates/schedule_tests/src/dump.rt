@@ -1,6 +1,6 @@
 //! Builds the texts of dumps from the parts in which the dumps differ.
 
-use std::alloc::{AllocError, Global};
+use std::alloc::AllocError;
 
 /// The parts of a dump that differ between schedules: the lines before the registers, the registers that aren't +0, the
 /// lines of the words shown, and the log. A register has its digits without leading zeros.
@@ -14,8 +14,8 @@ pub struct Dump<'a> {
 
 /// Writes digits after as many zeros as the width needs.
 fn put_octal(text: &mut Vec<u8>, digits: &str, width: usize) -> Result<(), AllocError> {
-    for _ in digits.len()..width {
-        text.push(b'0')?;
+    if let Some(zeros) = b"00000000000000000000".get(digits.len()..width) {
+        text.extend_from_slice(zeros)?;
     }
     text.extend_from_slice(digits.as_bytes())
 }
@@ -50,13 +50,19 @@ fn put_indexes(
     text.extend_from_slice(b"\n")
 }
 
+/// Writes the line of an X register.
+fn put_word(text: &mut Vec<u8>, dump: Dump<'_>, register: &str) -> Result<(), AllocError> {
+    text.extend_from_slice(register.as_bytes())?;
+    text.push(b' ')?;
+    put_register(text, dump, register, 20)?;
+    text.push(b'\n')?;
+    Ok(())
+}
+
 /// Writes the lines of the X registers.
 fn put_words(text: &mut Vec<u8>, dump: Dump<'_>) -> Result<(), AllocError> {
     for register in ["X0", "X1", "X2", "X3", "X4", "X5", "X6", "X7"] {
-        text.extend_from_slice(register.as_bytes())?;
-        text.push(b' ')?;
-        put_register(text, dump, register, 20)?;
-        text.push(b'\n')?;
+        put_word(text, dump, register)?;
     }
     Ok(())
 }
@@ -70,12 +76,12 @@ fn put_registers(text: &mut Vec<u8>, dump: Dump<'_>) -> Result<(), AllocError> {
     put_words(text, dump)
 }
 
-/// The text of a dump.
-pub fn dump_text(alloc: Global, dump: Dump<'_>) -> Result<Vec<u8>, AllocError> {
-    let mut text = Vec::from_slice(alloc, dump.begins.as_bytes())?;
-    put_registers(&mut text, dump)?;
+/// Writes the text of a dump.
+pub fn put_dump(text: &mut Vec<u8>, dump: Dump<'_>) -> Result<(), AllocError> {
+    text.extend_from_slice(dump.begins.as_bytes())?;
+    put_registers(text, dump)?;
     for part in [dump.shows, "LOG ", dump.log, "\n"] {
         text.extend_from_slice(part.as_bytes())?;
     }
-    Ok(text)
+    Ok(())
 }

@@ -3,7 +3,7 @@
 
 ghost use Rattle.std.specs.Prelude.{◌≡◌};
 
-use super::dump::dump_text;
+use super::dump::put_dump;
 use super::schedule::Schedule;
 use super::seat_holder::SeatHolder;
 use super::{branch_schedules, exchange_schedules, reference_schedules, register_schedules};
@@ -21,55 +21,66 @@ use std::sync::Wait;
 use std::test::Fail;
 use word60::Word60;
 
-/// The lines of a session: the deck, the events and a drain.
-fn session_of(alloc: Global, schedule: &Schedule) -> Result<Vec<u8>, AllocError> {
-    let mut session = Vec::from_slice(alloc, schedule.deck.as_bytes())?;
+/// Appends a line to a text.
+fn put_line(text: &mut Vec<u8>, line: &str) -> Result<(), AllocError> {
+    text.extend_from_slice(line.as_bytes())?;
+    text.push(b'\n')?;
+    Ok(())
+}
+
+/// Appends the lines of a session: the deck, the events and a drain.
+fn put_session(session: &mut Vec<u8>, schedule: &Schedule) -> Result<(), AllocError> {
+    session.extend_from_slice(schedule.deck.as_bytes())?;
     for (event, _) in schedule.steps {
-        session.extend_from_slice(event.as_bytes())?;
-        session.push(b'\n')?;
+        put_line(session, event)?;
     }
-    session.extend_from_slice(b"drain\n")?;
-    Ok(session)
+    put_line(session, "drain")
 }
 
-/// The lines that answer the events.
-fn answers_of(alloc: Global, schedule: &Schedule) -> Result<Vec<u8>, AllocError> {
-    let mut answers = Vec::new(alloc);
+/// Appends the lines that answer the events.
+fn put_answers(answers: &mut Vec<u8>, schedule: &Schedule) -> Result<(), AllocError> {
     for (_, answer) in schedule.steps {
-        answers.extend_from_slice(answer.as_bytes())?;
-        answers.push(b'\n')?;
+        put_line(answers, answer)?;
     }
-    Ok(answers)
+    Ok(())
 }
 
-/// The output of the session: the answers, and the dump of the drained machine.
-fn printed_by(alloc: Global, schedule: &Schedule) -> Result<Vec<u8>, AllocError> {
-    let mut printed = answers_of(alloc, schedule)?;
-    let dump = dump_text(alloc, schedule.dump)?;
-    printed.extend_from_slice(dump.as_slice())?;
-    Ok(printed)
+/// Appends the output of the session: the answers, and the dump of the drained machine.
+fn put_printed(printed: &mut Vec<u8>, schedule: &Schedule) -> Result<(), AllocError> {
+    put_answers(printed, schedule)?;
+    put_dump(printed, schedule.dump)
+}
+
+/// The event of a line.
+fn event_of(line: &'static str) -> Result<Event, Fail> {
+    match parse_schedule_line(line.as_bytes()) {
+        ScheduleLine::Makes(event) => Ok(event),
+        _ => Err(Fail::from(line)),
+    }
+}
+
+/// Appends the events of the lines.
+fn put_events(events: &mut Vec<Event>, schedule: &Schedule) -> Result<(), Fail> {
+    for (line, _) in schedule.steps {
+        events.push(event_of(line)?)?;
+    }
+    Ok(())
 }
 
 /// The events of the lines.
 fn events_of(alloc: Global, schedule: &Schedule) -> Result<Vec<Event>, Fail> {
     let mut events = Vec::new(alloc);
-    for (line, _) in schedule.steps {
-        match parse_schedule_line(line.as_bytes()) {
-            ScheduleLine::Makes(event) => events.push(event)?,
-            _ => return Err(Fail::from(*line)),
-        }
-    }
+    put_events(&mut events, schedule)?;
     Ok(events)
 }
 
-/// The lines of answers in a session.
-fn text_of(alloc: Global, answers: &[Answer]) -> Result<Vec<u8>, Fail> {
-    let mut text = Vec::new(alloc);
-    let mut output = CheckedWriter::new(&mut text);
+/// Appends the lines of answers in a session.
+fn put_lines(text: &mut Vec<u8>, answers: &[Answer]) -> Result<(), Fail> {
+    let mut output = CheckedWriter::new(text);
     for answer in answers {
         put_answer(&mut output, answer)?;
     }
-    Ok(text)
+    Ok(())
 }
 
 /// The deck of a schedule.
@@ -117,7 +128,8 @@ fn expect_left(
 ) -> Result<(), Fail> {
     let mut text = Vec::new(rt.alloc());
     dump(snapshot.state(), snapshot.log(), deck, &mut text)?;
-    let wanted = dump_text(rt.alloc(), schedule.dump)?;
+    let mut wanted = Vec::new(rt.alloc());
+    put_dump(&mut wanted, schedule.dump)?;
     let memory = memory_of(rt.alloc(), deck.image.memory().size(), schedule.memory)?;
     let is_left = is_same(&snapshot.state().memory, &memory);
     let is_booted = is_same(snapshot.boot_memory(), deck.image.memory());
@@ -147,9 +159,20 @@ fn expect_drained(
         schedule.name
     );
     let snapshot = machine.snapshot()?;
+    expect_snapshot(rt, schedule, deck, machine, &snapshot)
+}
+
+/// Expects that the snapshot of the drained machine has the machine's log and the schedule's final state.
+fn expect_snapshot(
+    rt: &(impl Abort + AllocGlobal),
+    schedule: &Schedule,
+    deck: &Deck,
+    machine: &Machine,
+    snapshot: &Snapshot,
+) -> Result<(), Fail> {
     let is_logged = machine.log().entries() == snapshot.log().entries();
     assert!(rt; is_logged, "{}", schedule.name);
-    expect_left(rt, schedule, deck, &snapshot)
+    expect_left(rt, schedule, deck, snapshot)
 }
 
 /// Expects answers with the lines of the schedule.
@@ -158,10 +181,24 @@ fn expect_answers(
     schedule: &Schedule,
     answers: &[Answer],
 ) -> Result<(), Fail> {
-    let text = text_of(rt.alloc(), answers)?;
-    let wanted = answers_of(rt.alloc(), schedule)?;
+    let mut text = Vec::new(rt.alloc());
+    put_lines(&mut text, answers)?;
+    let mut wanted = Vec::new(rt.alloc());
+    put_answers(&mut wanted, schedule)?;
     assert_eq!(rt; text, wanted, "{}", schedule.name);
     Ok(())
+}
+
+/// Expects the schedule's answers, and then its final state.
+fn expect_made(
+    rt: &(impl Abort + AllocGlobal),
+    schedule: &Schedule,
+    deck: &Deck,
+    machine: &mut Machine,
+    answers: &[Answer],
+) -> Result<(), Fail> {
+    expect_answers(rt, schedule, answers)?;
+    expect_drained(rt, schedule, deck, machine)
 }
 
 /// Makes one event after another.
@@ -175,8 +212,7 @@ fn expect_events(
     for event in events_of(rt.alloc(), schedule)? {
         answers.push(machine.apply(event))?;
     }
-    expect_answers(rt, schedule, answers.as_slice())?;
-    expect_drained(rt, schedule, deck, &mut machine)
+    expect_made(rt, schedule, deck, &mut machine, answers.as_slice())
 }
 
 /// Makes all events as one list.
@@ -189,14 +225,15 @@ fn expect_one_run(
     let events = events_of(rt.alloc(), schedule)?;
     let mut answers = Vec::new(rt.alloc());
     machine.run(events.as_slice(), &mut answers)?;
-    expect_answers(rt, schedule, answers.as_slice())?;
-    expect_drained(rt, schedule, deck, &mut machine)
+    expect_made(rt, schedule, deck, &mut machine, answers.as_slice())
 }
 
 /// Runs the lines as a session that ends with a drain.
 fn expect_lines(rt: &(impl Abort + AllocGlobal), schedule: &Schedule) -> Result<(), Fail> {
-    let session = session_of(rt.alloc(), schedule)?;
-    let wanted = printed_by(rt.alloc(), schedule)?;
+    let mut session = Vec::new(rt.alloc());
+    put_session(&mut session, schedule)?;
+    let mut wanted = Vec::new(rt.alloc());
+    put_printed(&mut wanted, schedule)?;
     let mut left = session.as_slice();
     let mut printed = Vec::new(rt.alloc());
     events(
@@ -254,8 +291,8 @@ fn count_alike<K: Naming>(
 ) -> Result<usize, Fail> {
     let mut machine = booted(rt.alloc(), deck, schedule)?;
     let mut alike = 0usize;
-    for event in events_of(rt.alloc(), schedule)? {
-        if is_alike(rt, holder, &mut machine, &event) {
+    for (line, _) in schedule.steps {
+        if is_alike(rt, holder, &mut machine, &event_of(line)?) {
             alike = alike.saturating_add(1);
         }
     }
@@ -312,10 +349,19 @@ fn expect_calls(
 fn expect_each(rt: &(impl Abort + AllocGlobal + Wait), schedule: &Schedule) -> Result<(), Fail> {
     expect_lines(rt, schedule)?;
     let deck = deck_of(rt.alloc(), schedule)?;
-    expect_events(rt, schedule, &deck)?;
-    expect_one_run(rt, schedule, &deck)?;
+    expect_on_deck(rt, schedule, &deck)
+}
+
+/// Makes a schedule in every way but as the lines of a session.
+fn expect_on_deck(
+    rt: &(impl Abort + AllocGlobal + Wait),
+    schedule: &Schedule,
+    deck: &Deck,
+) -> Result<(), Fail> {
+    expect_events(rt, schedule, deck)?;
+    expect_one_run(rt, schedule, deck)?;
     if schedule.left == 0 {
-        expect_calls(rt, schedule, &deck)?;
+        expect_calls(rt, schedule, deck)?;
     }
     Ok(())
 }
