@@ -83,15 +83,16 @@ class Crate:
 
     @cached_property
     def public_calls(self):
-        """Its public functions by their labels: those that it hands out, and the methods of the types and traits that
-        it hands out. What it hands on from another crate counts there."""
-        types, calls = {name for _, name in self.handed_out}, {}
+        """Its public functions: those that it hands out, and the methods of the types and traits that it hands out.
+        Two of them have one label if their types differ in arguments alone. What it hands on from another crate counts
+        there."""
+        types, calls = {name for _, name in self.handed_out}, []
         for source in self.code:
             for it in source.functions:
                 is_method = bool(it.owner) and not it.trait and it.owner in types
                 is_free = not it.owner and not it.indentation and (source.module, it.name) in self.handed_out
                 if (it.is_public or it.within.is_public_trait) and (is_method or is_free):
-                    calls[it.label] = it
+                    calls.append(it)
         return calls
 
 

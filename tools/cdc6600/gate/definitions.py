@@ -63,7 +63,7 @@ def check_item(where, column, item):
     """One thing that a cell names; the functions of contracts among them are given."""
     name, _, rest = item.partition(": ")
     has_names = column in ("Definition", "Contract", "Code")
-    if "/" not in name or column in COLUMNS[-2:] or has_names != bool(rest):
+    if "/" not in name or column == "Source" or has_names != bool(rest):
         fault(where, f"can't be read: {item}")
     elif column == "Definition":
         check_definitions(where, name, rest)
@@ -80,8 +80,8 @@ def check_item(where, column, item):
 def check_row(where, line):
     """A row of a table of rules."""
     cells = line.split("|")[1:]
-    if len(cells) != 9:
-        fault(where, f"a row has eight cells, and not {len(cells) - 1}")
+    if len(cells) != 8:
+        fault(where, f"a row has seven cells, and not {len(cells) - 1}")
     cells = dict(zip(COLUMNS, [*cells[1:], *[""] * len(COLUMNS)]))
     promising = []
     for column, cell in cells.items():

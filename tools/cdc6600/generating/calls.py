@@ -118,15 +118,15 @@ def requiring(call):
     return " and ".join(f"`{' '.join(text.split())}`" for text in REQUIRES.findall(call.declaration)) or NONE
 
 
-def rows_of(label, call):
+def rows_of(call):
     """The rows of a call: one, or of `Machine::apply` one for each event."""
     does = first_sentence(call.comment)
-    if label != "Machine::apply":
-        yield label, does, refusing(call), returning(call), requiring(call)
+    if call.label != "Machine::apply":
+        yield call.label, does, refusing(call), returning(call), requiring(call)
         return
     for event in Source(ROOT / "crates/program_order/src/event.rt").names_of_variants("Event"):
         refused = listed(of_kinds().get(event, set())) or "nothing"
-        yield f"{label}` of `{event}", does, refused, returning(call), requiring(call)
+        yield f"{call.label}` of `{event}", does, refused, returning(call), requiring(call)
 
 
 def text():
@@ -134,7 +134,7 @@ def text():
     parts = [INTRODUCTION]
     for crate in crates():
         if crate.public_calls:
-            rows = [row for label, call in crate.public_calls.items() for row in rows_of(label, call)]
+            rows = [row for call in crate.public_calls for row in rows_of(call)]
             lines = [f"| `{label}` | {' | '.join(map(cell, rest))} |" for label, *rest in rows]
             parts.append("\n".join([f"## `{crate.name}`\n", HEAD, *lines, ""]))
     return "\n".join(parts)

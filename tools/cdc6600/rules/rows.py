@@ -6,8 +6,8 @@ from dataclasses import dataclass
 from cdc6600.shared.program import ROOT
 
 PAGE = "docs/proof/definitions.md"
-HEAD = "| Rule | Definition | Contract | Code | Proof | Wrong body | Source | Checked against |"
-COLUMNS = ("Definition", "Contract", "Code", "Proof", "Wrong body", "Source", "Checked against")
+HEAD = "| Rule | Definition | Contract | Code | Proof | Wrong body | Source |"
+COLUMNS = ("Definition", "Contract", "Code", "Proof", "Wrong body", "Source")
 FUNCTION = re.compile(r"([A-Za-z0-9_:]+)(?: \(([a-z_0-9, ]*)\))?(?:, *)?")
 
 
