@@ -8,7 +8,8 @@ results of each with the files beside it.
 - Edited decks and arguments are run again, and no others. Decks of one name are refused, in one call and in two. Two
   calls at once run each deck once. A call that is killed leaves no lock, and no part of a dump becomes a dump. One that
   is interrupted leaves no part, and neither does a full disk. Another program's results count as not done, and so do
-  those of a program that ends with 0 without a dump, or with 1 without a fault line.
+  those of a program that ends with 0 without a dump, or with 1 without a fault line. A file that no call has written is
+  kept, and no link is followed.
 - The script for Slurm, with more tasks than decks, two of its tasks again, and with another number of tasks.
 
 It says nothing if all is right, otherwise a line for each fault. CDC6600 may name the program to try.
@@ -16,6 +17,7 @@ It says nothing if all is right, otherwise a line for each fault. CDC6600 may na
 Run it after a change of that page, or of `tools/run-jobs`.
 """
 
+import itertools
 import os
 import re
 import resource
@@ -323,6 +325,26 @@ def faults_of_programs(folder):
     return faults + differing("files without a result", ["one.job"], folder.files("programs"))
 
 
+def faults_of_other_files(folder):
+    """Runs a job where a file or a link that no call has written is in the place of one of its files; the faults."""
+    faults, others, away = [], folder.room / "others.jobs", folder.room / "away"
+    others.mkdir()
+    for ending, is_link in itertools.product(("dump", "status", "told", "job"), (False, True)):
+        file = others / f"one.{ending}"
+        if is_link:
+            file.symlink_to(away)
+        else:
+            file.write_text("mine", encoding="ascii")
+        status, printed, told, ran = folder.answer(others.name, "decks/one.deck")
+        is_kept = file.is_symlink() if is_link else file.is_file() and file.read_bytes() == b"mine"
+        came = status, printed, len(told), ran, is_kept, away.exists()
+        faults += differing(f"a {'link' if is_link else 'file'} at {file.name}", (255, "", 1, [], True, False), came)
+        file.unlink(missing_ok=True)
+        away.unlink(missing_ok=True)
+    again = folder.answer(others.name, "decks/one.deck")
+    return faults + differing("the call after these files", (0, counted(1), [], ["one"]), again)
+
+
 def script_of_page():
     """The page's script for Slurm, and the first and the last number of its tasks."""
     lines = lines_of(PAGE)
@@ -376,6 +398,7 @@ def main():
             lambda: faults_of_interrupt(small),
             lambda: faults_of_full_disk(small),
             lambda: faults_of_programs(small),
+            lambda: faults_of_other_files(small),
             lambda: faults_of_tasks(small),
         )
         return tell([fault for work in works for fault in faults_found(work)])

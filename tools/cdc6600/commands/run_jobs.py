@@ -10,14 +10,14 @@ Of the deck NAME.deck, or the source program NAME.source, FOLDER gets
 
 A job is done if its status is 0, 1, 3, 4 or 5: another run would have the same status. A job that is done isn't run
 again, unless its deck, the words of its run or the program have changed. A run without a dump, or with status 1 and no
-fault line, leaves no status. The words in a file NAME.arguments beside the deck are
-further arguments of its run.
+fault line, leaves no status. A file that no call has written isn't written over. The words in a file NAME.arguments
+beside the deck are further arguments of its run.
 
 The dump is written as NAME.dump.part and renamed, and the status is written last. Each job has a lock, so several calls
 can share a FOLDER, and none runs a job that another call runs. A call that is killed leaves no lock. Two decks with one
 name from different folders are refused, in one call and if FOLDER has the result of the other.
 
-CDC6600 may name the program; otherwise it is the one that tools/build-program builds, or that is installed with this
+CDC6600 may name the program; otherwise it is the one that tools/build-program has built, or that is installed with this
 tool. The last line counts the jobs by their statuses.
 
 Exit status:
@@ -36,7 +36,7 @@ from cdc6600.many_jobs.call import Call, line_of
 from cdc6600.many_jobs.job import Fault, Job, clash
 from cdc6600.many_jobs.signals import end_by_signals
 from cdc6600.shared.ending import ended, printable
-from cdc6600.shared.program import BUILT, named_program
+from cdc6600.shared.program import BUILT, named_program, unproved_path
 
 NAME, REFUSED, STANDARD_ERROR = "tools/run-jobs", 255, 2
 # The seconds between two lines of progress, at a terminal and elsewhere.
@@ -119,10 +119,10 @@ def jobs_of(given):
 
 
 def program():
-    """The path of the program.
+    """The path of the program: the unproved one if no other is built.
 
     Raises Fault if there is none."""
-    path = named_program() or str(BUILT)
+    path = named_program() or (None if BUILT.exists() else unproved_path()) or str(BUILT)
     if not (os.path.isfile(path) and os.access(path, os.X_OK)):
         raise Fault(f"{path}: no such program; tools/build-program builds it")
     return path

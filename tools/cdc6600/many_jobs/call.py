@@ -70,7 +70,7 @@ class Worker:
             for descriptor in others:
                 os.close(descriptor)
             self.work()
-        except (Fault, OSError, MemoryError) as fault:
+        except (Fault, OSError, MemoryError, SystemError) as fault:
             with suppress(BrokenPipeError):
                 self.report(0, "!", False, line_of(fault))
         except SystemExit:

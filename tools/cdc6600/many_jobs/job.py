@@ -3,6 +3,7 @@
 import fcntl
 import hashlib
 import os
+import re
 import signal
 from contextlib import suppress
 
@@ -17,6 +18,8 @@ FINAL = (0, 1, 3, 4, 5)
 # The statuses with which a run prints a dump, and how that begins; and how it begins the line for a refused deck.
 WITH_DUMP, DUMP, FAULT = (0, 3, 4, 5), b"P ", b"cdc6600: "
 SEQUENTIAL = b"--sequential"
+# The results of a job, that with which the others count first; and how a record begins, by two checksums.
+RESULTS, RECORD = ("status", "dump", "told", "dump.part"), re.compile(rb"[0-9a-f]{64} [0-9a-f]{64}\n")
 # Python ignores these signals; the program has to get them.
 RESTORED = (signal.SIGPIPE, signal.SIGXFSZ)
 
@@ -103,7 +106,7 @@ class Job:
 
         Raises Unread if the deck can't be read."""
         self.open_deck()
-        self.lock = os.open(self.file("job"), os.O_RDWR | os.O_CREAT | os.O_CLOEXEC, 0o666)
+        self.lock = os.open(self.file("job"), os.O_RDWR | os.O_CREAT | os.O_CLOEXEC | os.O_NOFOLLOW, 0o666)
         try:
             with waiting():
                 fcntl.flock(self.lock, fcntl.LOCK_EX if waits else fcntl.LOCK_EX | fcntl.LOCK_NB)
@@ -144,6 +147,13 @@ class Job:
             if not os.path.samefile(kept, self.deck):
                 raise Fault(clash(kept, self.deck, self.file("*")))
 
+    def refuse_other_files(self, record):
+        """Raises Fault if a file of the job is there that no call has written. A record is there before any result."""
+        others = [ending for ending in RESULTS if os.path.lexists(self.file(ending))] if not record else []
+        others += ["job"] if record and not RECORD.match(record) else []
+        if others:
+            raise Fault(f"{self.file(others[0])}: it is there already, and isn't written over")
+
     def read_status(self):
         """Reads the status that is kept; whether another run would have it too."""
         kept = (content_if_there(self.file("status")) or b"").strip()
@@ -168,13 +178,15 @@ class Job:
     def run(self, program, program_sum, environment):
         """Runs a locked job, unless it is done; whether it was run.
 
-        Raises Unread if the deck can't be read, and Fault if the files have the result of another deck."""
+        Raises Unread if the deck can't be read, and Fault if the files have the result of another deck, or something
+        else."""
         words, path = self.words(), self.path()
         try:
             key = self.result_key(words, program_sum)
         except OSError as fault:
             raise Unread(fault.strerror) from None
         record = content_of(self.lock)
+        self.refuse_other_files(record)
         kept_path = os.fsdecode(record.split(b"\n", 2)[-1].removesuffix(b"\n"))
         if record and kept_path != path:
             self.refuse_other_deck(kept_path)
@@ -190,7 +202,7 @@ class Job:
     def clear(self):
         """Removes what earlier runs left, the status first: without it no other file counts."""
         self.status = None
-        for ending in ("status", "dump", "told", "dump.part"):
+        for ending in RESULTS:
             remove(self.file(ending))
 
     def start(self, program, words, environment):

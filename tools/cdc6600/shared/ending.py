@@ -10,6 +10,8 @@ import sys
 INTERRUPTED, UNREAD = 128 + signal.SIGINT, 128 + signal.SIGPIPE
 # The faults with which the system refuses a process, and how Python begins the fault of a refused thread.
 REFUSALS, NO_THREAD = (errno.EAGAIN, errno.ENOMEM), "can't start new thread"
+# How Python tells that a call has failed and the fault is lost, as that of refused memory sometimes is.
+LOST = "without setting an exception"
 
 
 class Unwritten(Exception):
@@ -23,7 +25,7 @@ def why_not_started(fault):
 
 def refused(fault):
     """What the system has refused to a script: memory, a thread or a process; none for any other fault."""
-    if isinstance(fault, MemoryError):
+    if isinstance(fault, MemoryError) or (isinstance(fault, SystemError) and LOST in str(fault)):
         return "memory was refused"
     if isinstance(fault, RuntimeError) and str(fault).startswith(NO_THREAD):
         return "a thread was refused"
@@ -92,9 +94,9 @@ def ended(name, main, *faults, status=1):
         return INTERRUPTED
     except (Unwritten, *faults) as fault:
         line = fault
-    except (OSError, MemoryError, RuntimeError) as fault:
+    except (OSError, MemoryError, RuntimeError, SystemError) as fault:
         # A fault of a file names it; one of standard output doesn't.
-        if refused(fault) is None and (isinstance(fault, RuntimeError) or fault.filename is not None):
+        if refused(fault) is None and not (isinstance(fault, OSError) and fault.filename is None):
             raise
         line = refused(fault) or f"standard output: {fault.strerror}"
     # By now the memory of what has failed is free.

@@ -56,16 +56,23 @@ def is_current(file):
     return file.exists() and not subprocess.run(words, check=False).returncode
 
 
+def unproved_path():
+    """The unproved program, which is told, or none if it isn't built of the sources as they are."""
+    if not is_current(UNPROVED):
+        return None
+    told = "UNPROVED: what runs is built from the sources without their proof, and 16 to 180 times slower"
+    print(printable(f"{sys.argv[0]}: {told}"), file=sys.stderr, flush=True)
+    return str(UNPROVED)
+
+
 def program_path():
     """The program that CDC6600 names; otherwise the one that is installed with the tools, if they are; otherwise the
     one that `./cdc6600` runs. If that isn't built of the sources as they are, it is the unproved one, which is told, or
     else the program is built first. What is run is the executable, without the script's look at the sources at each
     run."""
     if IS_CHECKOUT and not named_program() and not is_current(BUILT):
-        if is_current(UNPROVED):
-            told = "UNPROVED: what runs is built from the sources without their proof, and 16 to 180 times slower"
-            print(printable(f"{sys.argv[0]}: {told}"), file=sys.stderr, flush=True)
-            return str(UNPROVED)
+        if unproved := unproved_path():
+            return unproved
         if not BUILT.exists():
             told = "proving and building the program first, which takes some ten minutes"
             print(printable(f"{sys.argv[0]}: {told}; {OTHER}"), file=sys.stderr, flush=True)
