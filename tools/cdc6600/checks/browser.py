@@ -1,7 +1,9 @@
-"""Tries the pages of tools/gallery in a browser, Chromium without a window.
+"""Tries the pages of tools/gallery in browsers without a window: in Chromium and in Firefox, as far as these are
+installed.
 
     tools/check browser                      tries each page
-    tools/check browser --pictures FOLDER    takes pictures of some of them as well, as PNG files, and those of docs/use
+    tools/check browser --pictures FOLDER    takes pictures of some of them in Chromium as well, as PNG files, and those
+                                             of docs/use
 
 Each page is gone through by the keyboard, by its buttons, by its slider and with hidden answers, and what is shown at
 each step is compared: the event with the session's line, its answer with that of `cdc6600 events`, at the end the dump,
@@ -15,8 +17,9 @@ The page of tools/explore for the deck of the first run is tried by keys and a b
 page by minor cycles of a schedule is gone through by keyboard, with the cursor at the cycle of each event, and by its
 cycles. The page of two schedules is tried in width and contrast.
 
-It says nothing where all is right, else the page and what is wrong. It needs `chromium` and `chromedriver`: root has
-what is missing installed from Debian. CDC6600 may name the program to ask.
+It says nothing where all is right, else the page and what is wrong. A browser that isn't installed is left out, and
+that is told. Chromium needs `chromedriver` too; Firefox is `firefox-esr`. If none of them is there, root has them
+installed from Debian. CDC6600 may name the program to ask.
 
 Run it after a change of `tools/cdc6600/drawing`, of `tools/cdc6600/timing/graph.py`, of a session, or of what is
 answered.
@@ -37,9 +40,11 @@ from cdc6600.shared.ending import ended
 from cdc6600.shared.program import ROOT, Program, tell
 from cdc6600.shared.waiting import Missing, run, wait_until
 
+from .browsers import in_each
+from .chromium import Chromium
 from .debian import provide
 from .page_scripts import ASKED, CONTRAST, HIDDEN, SCROLLED, SHOWN, SMALL, STILL
-from .web_driver import Browser, Refused
+from .web_driver import Refused
 
 WIDE, NARROW = (1280, 900), (360, 740)
 # The same windows as they are with everything twice as large, the narrow one 400 pixels wide.
@@ -129,8 +134,7 @@ class Trial:
     def asks_for_itself(self):
         """That nothing but the page was asked for, and nothing went wrong."""
         others = [url for url in self.browser.requests() if url != self.tried.url]
-        told = [it["message"] for it in self.browser.log("browser")]
-        for fault in [f"it asks for {url}" for url in others] + told:
+        for fault in [f"it asks for {url}" for url in others] + self.browser.faults():
             self.fault(fault)
 
     def by_keyboard(self):
@@ -280,7 +284,7 @@ def faults_of_opening(browser, file):
     browser.requests()
     browser.open(file.as_uri())
     others = [f"it asks for {other}" for other in browser.requests() if other != file.as_uri()]
-    return others + [it["message"] for it in browser.log("browser")]
+    return others + browser.faults()
 
 
 def faults_of_look(browser):
@@ -304,7 +308,7 @@ def faults_of_index(browser, folder):
 
 def faults_of_graph(browser, folder):
     """Tries the page of tools/explore for the deck of the first run; its faults."""
-    faults = faults_of_opening(browser, made(folder / "graph.html", "explore", "--html", FIRST))
+    faults = faults_of_opening(browser, folder / "graph.html")
     shown = "return [document.getElementById('name').textContent, document.querySelector('.chosen').id];"
     for keys, layer in ((("Home",), 0), (("Right",) * 4, 4), (("Left",), 3), (("Right",) * 30, 20)):
         for key in keys:
@@ -318,13 +322,15 @@ def faults_of_graph(browser, folder):
     return [f"graph.html: {fault}" for fault in faults + faults_of_look(browser)]
 
 
-def timed_pages(folder):
-    """Makes the page by minor cycles of a program with a loop, and the page of two schedules of it; their files."""
+def make_others(folder):
+    """Makes the page of tools/explore, the page by minor cycles of a program with a loop, and that of two schedules of
+    this program."""
+    made(folder / "graph.html", "explore", "--html", FIRST)
     deck = made(folder / "total.deck", "assemble", FOLDER / "source/total.source")
     timed = made(folder / "timed.session", "schedule", deck)
     slow = made(folder / "one-by-one.session", "schedule", "--policy", "program-order", deck)
-    compared = made(folder / "compared.html", "timeline", "--html", "--compare", slow, timed)
-    return made(folder / "cycles.html", "timeline", "--html", "--cycles", timed), compared
+    made(folder / "compared.html", "timeline", "--html", "--compare", slow, timed)
+    made(folder / "cycles.html", "timeline", "--html", "--cycles", timed)
 
 
 def faults_by_cycle(browser, numbers):
@@ -341,7 +347,7 @@ def faults_by_cycle(browser, numbers):
 
 def faults_of_timed(browser, folder):
     """Tries the page by minor cycles and the page of two schedules; their faults."""
-    cycles, compared = timed_pages(folder)
+    cycles, compared = folder / "cycles.html", folder / "compared.html"
     faults = [f"cycles.html: {fault}" for fault in faults_of_opening(browser, cycles) + faults_of_look(browser)]
     numbers = json.loads(DATA.search(cycles.read_text(encoding="utf-8"))[1])["cycles"]
     browser.press("Home")
@@ -371,15 +377,13 @@ def take_pictures(browser, folder, pictures):
         browser.picture(pictures / f"{picture}.png")
 
 
-def tries(program, browser, folder, pictures):
+def tries(browser, folder, pages):
     """Tries all pages; the faults."""
     faults = []
     for work in (faults_of_index, faults_of_graph, faults_of_timed):
         faults += work(browser, folder)
-    for it in sessions():
-        faults += Trial(browser, Tried(program, folder, it)).whole()
-    if pictures:
-        take_pictures(browser, folder, Path(pictures))
+    for it in pages:
+        faults += Trial(browser, it).whole()
     return faults
 
 
@@ -390,11 +394,14 @@ def work():
         made = run([ROOT / "tools/gallery", name], stderr=subprocess.PIPE, text=True)
         if made.returncode:
             return tell(made.stderr.splitlines() or ["tools/gallery failed"])
-        browser = Browser()
-        try:
-            return tell(tries(program, browser, Path(name), given.pictures))
-        finally:
-            browser.close()
+        folder = Path(name)
+        make_others(folder)
+        pages = [Tried(program, folder, it) for it in sessions()]
+        status = tell(in_each(lambda browser: tries(browser, folder, pages)))
+        if given.pictures:
+            with Chromium() as browser:
+                take_pictures(browser, folder, Path(given.pictures))
+        return status
 
 
 def main():

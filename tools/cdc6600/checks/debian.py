@@ -9,13 +9,16 @@ from contextlib import suppress
 from cdc6600.shared.waiting import Missing, run
 
 NEEDED = {
-    "browser": ("chromium", "chromedriver"), "driving": ("chromium", "chromedriver"), "emulators": ("rustc",),
-    "embedding": ("cc", "pkg-config", "rustc"), "habits": ("man",), "module": ("node",), "style": ("flake8",),
+    "emulators": ("rustc",), "embedding": ("cc", "pkg-config", "rustc"), "habits": ("man",), "module": ("node",),
+    "style": ("flake8",),
 }
+# The browsers, with the programs that each needs. The checks of pages need one of them, and try the pages in each.
+BROWSERS = {"Chromium": ("chromium", "chromedriver"), "Firefox": ("firefox-esr",)}
+OF_PAGES = ("browser", "driving")
 PACKAGES = {
     "cc": ("gcc", "libc6-dev"), "chromedriver": ("chromium-driver",), "chromium": ("chromium",),
-    "flake8": ("python3-flake8",), "man": ("man-db",), "node": ("nodejs",), "pkg-config": ("pkg-config",),
-    "rustc": ("rustc",), "wasm-opt": ("binaryen",),
+    "firefox-esr": ("firefox-esr",), "flake8": ("python3-flake8",), "man": ("man-db",), "node": ("nodejs",),
+    "pkg-config": ("pkg-config",), "rustc": ("rustc",), "wasm-opt": ("binaryen",),
 }
 # How many seconds an installation waits for another one, and how many minutes it may take.
 PATIENCE, MINUTES = 600, 30
@@ -36,9 +39,17 @@ def is_installed(program):
     return bool(flake8() if program == "flake8" else shutil.which(program))
 
 
+def absent(programs):
+    """Those of some programs that aren't installed."""
+    return [program for program in programs if not is_installed(program)]
+
+
 def missing(check):
     """The programs that the check of this name needs and that aren't installed."""
-    return [program for program in NEEDED.get(check, ()) if not is_installed(program)]
+    if check in OF_PAGES:
+        lacking = [absent(programs) for programs in BROWSERS.values()]
+        return sum(lacking, []) if all(lacking) else []
+    return absent(NEEDED.get(check, ()))
 
 
 def provide(check):

@@ -15,13 +15,18 @@ document.getElementById("text").value = atob(arguments[0]);
 document.getElementById("start").click();
 """
 
-# The session that the page has made, what it shows after each event, and its table of the reservations.
+# The session that the page has made, what it shows after each event, its table of the reservations, and its minor
+# cycles in all.
 STEPS = r"""
 const names = ["event", "answer", "words", "refused", "holds", "machine", "units", "places", "channels", "banks",
-  "registers"];
+  "registers", "cycle"];
 const steps = driven.steps.map((step) => ({ ...Object.fromEntries(names.map((name) => [name, step[name]])),
   values: Object.fromEntries(step.changed.map((name) => [name, [step.values[name], numberOf(step.values[name])]])) }));
-return [driven.session(), steps, driven.reservations()];
+const rows = driven.reservations().map((it) => {
+  const { text, unit } = driven.asking.rows[it.number];
+  return [String(it.number), text, unit, ...momentsOf(it)];
+});
+return [driven.session(), steps, rows, driven.clock.total];
 """
 
 # Makes events that are drawn: mostly some that the machine accepts, sometimes any one or a peripheral access. Now and
@@ -42,11 +47,76 @@ for (let k = 0; k < count; k++) {
 show();
 """
 
-# Presses an event's button by the keyboard, twice; what has the focus after each time.
-PRESSED = r"""
-document.getElementById("start").click();
-document.getElementById("may").firstElementChild.focus();
-return [1, 2].map(() => { document.activeElement.click(); return document.activeElement.tagName; });
+# Makes events that are drawn, by their buttons, so that each is shown. Now and then the last one is taken back.
+PLAYED = r"""
+let [seed, count] = arguments;
+const draw = (n) => { seed = (seed * 1103515245 + 12345) % 2147483648; return Math.floor(seed / 65536) % n; };
+for (let k = 0; k < count; k++) {
+  const all = [...document.querySelectorAll("#may button")];
+  const some = all.filter((it) => !it.dataset.event.startsWith("ask"));
+  const from = some.length ? some : all;
+  from[draw(from.length)].click();
+  if (k % 9 === 8) { document.getElementById("undo").click(); }
+}
+"""
+
+# All that is shown of the session: texts, marks, and what is drawn, in the order of its positions.
+SEEN = r"""
+const all = (selector) => [...document.querySelectorAll(selector)];
+const texts = (selector) => all(selector).map((it) => it.textContent);
+const drawn = (selector) => all(selector).map((it) =>
+  [...["x", "y", "width", "class"].map((name) => it.getAttribute(name)), it.textContent].join(" ")).sort();
+const frame = document.querySelector(".frame").style;
+return {
+  step: texts("#step *"), may: texts("#may button"), waits: texts("#waits li"),
+  next: texts("#next, #drained, #next-is"),
+  panel: texts("#panel dd, #panel tr, #panel li"), marks: all("#panel .changed, #panel .taken").map((it) => it.id),
+  events: texts("#events tr"), reservations: texts("#reservations tr"), listing: texts("#listing tr"),
+  here: texts("#listing .here, #listing mark"), names: drawn("#labels g text"), columns: drawn("#picture text"),
+  bars: drawn("#picture rect"), size: [frame.width, frame.height],
+};
+"""
+
+# What is shown with minor cycles: the numbers above the columns, those of the events in their table, first ones first,
+# the table of the reservations, and the total.
+TIMED = r"""
+const texts = (selector) => [...document.querySelectorAll(selector)].map((it) => it.textContent);
+document.getElementById("minor-cycles").click();
+const moments = (row) => [...row.cells].slice(3, -1).map((it) => it.textContent);
+return [
+  texts("#picture text.quiet"), texts("#events td.cycle").reverse(),
+  [...document.querySelectorAll("#reservations tr")].map(moments), texts("#total")[0].split(" ")[0],
+];
+"""
+
+# Takes all events back, and makes them again one by one; how many there are.
+AGAIN = r"""
+const button = (id) => document.getElementById(id);
+const isIdle = (id) => button(id).getAttribute("aria-disabled") === "true";
+button("to-start").click();
+const isStart = isIdle("undo") && document.querySelectorAll("#events tr").length === 0;
+while (!isIdle("redo")) { button("redo").click(); }
+return isStart ? driven.steps.length : "not at the start";
+"""
+
+# Gives the focus to the first element of a selector, if there is one.
+FOCUSED = "document.querySelector(arguments[0])?.focus();"
+
+# What has the focus, its name, and the number of events.
+FOCUS = """
+const { tagName, id } = document.activeElement;
+return [tagName, id, driven.steps.length];
+"""
+
+# On paper: the controls that are shown, the parts that aren't, and the number of events in the table.
+PRINTED = r"""
+window.dispatchEvent(new Event("beforeprint"));
+const isShown = (selector) => document.querySelector(selector).checkVisibility();
+return {
+  controls: ["#start", "#next", "#may", "#waits", "#end", "#typed", "#link"].filter(isShown),
+  missing: ["#text", "#step", "#panel", "#picture", "#reservations", "#listing"].filter((it) => !isShown(it)),
+  events: [...document.querySelectorAll("#events tr")].filter((it) => it.checkVisibility()).length,
+};
 """
 
 # What is told of a refused program, and what of it is marked.

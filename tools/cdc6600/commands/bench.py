@@ -28,6 +28,7 @@ BENCHMARKS = {
     "events": "a line of a schedule",
     "reading": "the reading of the longest deck",
     "memory": "the most memory of a run",
+    "page": "an event in the page of a browser, with its drawing",
     "soak": "whether runs end, again and again",
     "busy-checks": "whether checks pass beside busy processes",
     "make-deck": "prints a deck that the others use",

@@ -1,6 +1,5 @@
 // A machine that is driven: the events made so far, each with what the panel shows after it.
 
-const NOTHING = "E15 nothing";
 const UNITS = Object.keys(GIVEN.names);
 const MOST_EVENTS = 1000;
 
@@ -11,13 +10,27 @@ function numberOf(digits) {
   return value > whole / 2n ? `-${whole - value}` : String(value);
 }
 
-/** The addresses of the first words that a deck shows. */
+/** The first words that a deck shows: the address of each row of words, and how many these are. */
 function shownBy(deck) {
-  const found = [...deck.matchAll(/^show ([0-7]+) ([0-7]+)$/gm)].flatMap(([, first, last]) => {
-    const [from, to] = [first, last].map((it) => parseInt(it, 8));
-    return Array.from({ length: Math.min(to - from + 1, GIVEN.limits.shown) }, (_, n) => from + n);
+  let free = GIVEN.limits.shown;
+  return [...deck.matchAll(/^show ([0-7]+) ([0-7]+)$/gm)].map(([, ...ends]) => {
+    const [first, last] = ends.map((it) => parseInt(it, 8));
+    const count = Math.min(last - first + 1, free);
+    free -= count;
+    return [first, count];
   });
-  return found.slice(0, GIVEN.limits.shown);
+}
+
+/** The result of a call of the library, or its failure: both have a fault line, a status and what was printed. */
+function attempt(work) {
+  try {
+    return work();
+  } catch (failure) {
+    if (failure.status === undefined) {
+      throw failure;
+    }
+    return failure;
+  }
 }
 
 class Driven {
@@ -31,12 +44,15 @@ class Driven {
     }
     this.shown = shownBy(deck);
     this.package = plain(/^start ([0-7]+)$/m.exec(deck)?.[1] ?? "0");
-    this.replays = new Replays(library, deck);
     this.asking = new Asking(library, this.machine);
-    this.words = new Words(this.replays, this.asking);
+    this.words = new Words(this.asking, /^core (\d+)/.exec(deck)[1]);
     this.start = this.valuesNow();
     this.boot = { state: this.asking.state, count: this.asking.rows.length, ...this.words.panel("none") };
     this.steps = [];
+    this.moments = new Moments();
+    this.clock = new Clock();
+    // The events that were taken back and can be made again, the next one first.
+    this.undone = [];
   }
 
   get last() { return this.steps.at(-1) ?? { ...this.boot, event: "", holds: [], values: this.start, log: "none" }; }
@@ -50,7 +66,9 @@ class Driven {
     for (const kind of ["x", "a", "b"]) {
       now[kind].forEach((value, n) => { found[`${kind.toUpperCase()}${n}`] = octal(value, kind === "x" ? 20 : 6); });
     }
-    this.shown.forEach((at) => { found[octal(at, 6)] = octal(this.machine.words(at, 1)[0] ?? 0n, 20); });
+    for (const [first, count] of this.shown) {
+      this.machine.words(first, count).forEach((word, n) => { found[octal(first + n, 6)] = octal(word, 20); });
+    }
     return found;
   }
 
@@ -63,29 +81,33 @@ class Driven {
     return word === undefined ? null : octal(word, 20);
   }
 
-  /** The refusals of what is to be done next in this state, each with its reservation; an issue has none yet. */
-  refusals() {
+  /** What holds up the next event of each pending reservation in this state, and the next issue, which has none yet. */
+  holds() {
     const parts = [[0, "issue"], ...this.asking.pending.map((row) => [row, this.asking.next(row)])];
-    return parts.map(([row, event]) => ({ row, ...this.asking.judge(event) })).filter((it) => isRefusal(it.answer));
+    return parts.map(([row, event]) => [row, this.asking.judge(event)]).filter(([, it]) => isRefusal(it.answer))
+      .map(([row, it]) => [row, heldBy(it)]);
   }
 
   /** Makes an event; what is shown of it, or what is wrong with its line. */
   make(event) {
-    const before = { state: this.asking.state, log: this.log, ...this.asking.before(event) };
-    const tried = this.refusals();
+    const before = { state: this.asking.state, ...this.asking.before(event) };
+    const held = this.holds();
     const ran = attempt(() => this.machine.event(event));
     if (ran.status !== 0) {
       return { event, wrong: `That is no event: ${event}` };
     }
     const answer = ran.printed.trimEnd();
     const refused = isRefusal(answer);
+    const found = refused ? this.refused(event, before) : this.made(event, answer, before);
     const log = this.machine.log().printed.trimEnd();
-    const found = refused ? this.refused(event, before) : this.made(event, answer, before, log);
     const values = this.valuesNow();
     const changed = Object.keys(values).filter((name) => values[name] !== this.last.values[name]);
-    const step = { event, answer, refused, ...found, values, changed, log, tried, state: this.asking.state,
-      count: this.asking.rows.length, ...this.words.panel(log) };
+    const step = { number: this.steps.length + 1, event, answer, refused, ...found, values, changed, log, held,
+      state: this.asking.state, count: this.asking.rows.length, ...this.words.panel(log) };
+    step.cycle = this.clock.note(step, this.asking.rows);
     this.steps.push(step);
+    this.moments.note(step);
+    this.undone = [];
     return step;
   }
 
@@ -95,20 +117,31 @@ class Driven {
       holds: judged.rows.map(String) };
   }
 
-  made(event, answer, before, log) {
-    const mark = this.asking.follow(event, answer, before, log);
+  made(event, answer, before) {
+    const mark = this.asking.follow(event, answer, before);
     return { mark, words: this.words.told(event, answer, mark, before.state, this.asking.state), holds: [] };
   }
 
   /** Takes the last events back, by a new boot and the events before them. */
   undo(count = 1) {
-    const steps = this.steps.slice(0, Math.max(this.steps.length - count, 0));
+    const left = Math.max(this.steps.length - count, 0);
+    const steps = this.steps.slice(0, left);
+    this.undone = [...this.steps.slice(left).map((it) => it.event), ...this.undone];
     this.machine.boot(this.deck);
     steps.forEach((it) => this.machine.event(it.event));
     this.steps = steps;
+    this.moments = Moments.after(steps, this.moments);
+    this.clock = Clock.after(steps, this.asking.rows);
     const now = steps.at(-1) ?? this.boot;
     this.asking.rows.length = now.count;
     this.asking.set(now.state);
+  }
+
+  /** Makes the event again that was taken back last. */
+  redo() {
+    const [event, ...others] = this.undone;
+    this.make(event);
+    this.undone = others;
   }
 
   /** Each event that the machine would make or refuse for more than that there is nothing to do, with its answer and
@@ -165,38 +198,9 @@ class Driven {
   /** The session so far, as the tools take it. */
   session() { return `${this.deck}${[...this.steps.map((it) => it.event), "end"].join("\n")}\n`; }
 
-  /** A row for each reservation: its number, its instruction, its unit, the numbers of its events, and the last refusal
-   * of its next event. */
+  /** The rows of the table of the reservations. */
   reservations() {
-    const columns = ["issue", "read", "finish", "store", "accept", "return"];
-    const moments = this.asking.rows.map(() => ({}));
-    const holds = this.asking.rows.map(() => null);
-    let issuing = null;
-    this.steps.forEach((step, n) => {
-      const [kind] = step.event.split(" ");
-      step.tried.filter((it) => it.row).forEach((it) => { holds[it.row] = it; });
-      issuing = step.tried.find((it) => it.row === 0) ?? issuing;
-      if (step.refused) {
-        return;
-      }
-      moments[step.mark.row][kind] = n + 1;
-      if (kind === "issue" || kind === "exchange") {
-        holds[step.mark.row] = issuing ?? holds[step.mark.row];
-        issuing = null;
-      }
-    });
-    this.refusals().filter((it) => it.row).forEach((it) => { holds[it.row] = it; });
-    return this.asking.rows.slice(1).map((it) => [String(it.number), it.text, it.unit,
-      ...columns.map((kind) => String(moments[it.number][kind] ?? "")), heldBy(holds[it.number])]);
+    this.moments.hold(this.holds());
+    return this.moments.rows.slice(1);
   }
-}
-
-/** What held a reservation, as tools/timeline --table has it. */
-function heldBy(hold) {
-  if (!hold) {
-    return "";
-  }
-  const numbers = hold.rows.map(String);
-  const by = filled("[ ({numbers:reservation|reservations} {numbers})]", { numbers });
-  return `${hold.event.split(" ")[0]}: ${hold.answer}${by}`;
 }

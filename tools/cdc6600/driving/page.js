@@ -1,12 +1,21 @@
 // The page: the program's box, the buttons of the events, and what is shown of the machine.
 
-// The most rows of a table and the most lines of a listing: a browser takes long for more.
-const MOST_ROWS = 300;
+// The rows that a table has at first, and those that it gets at a time if more are asked for. A browser takes long for
+// many rows, also if they are out of sight, and for many lines of a listing.
+const FEW_ROWS = 50;
+const MORE_ROWS = 300;
 const MOST_LINES = 3000;
+// A parcel with the instruction that does nothing.
+const PASS = "46000";
 let library = null;
 let driven = null;
 let program = null;
 let timeline = null;
+// The rows of the listing, by the numbers of their lines or the addresses of their words, and what is marked there.
+let listing = new Map();
+let marked = { row: null, parcel: "" };
+// The most rows of each table.
+let most = {};
 
 function element(name, text, attributes = {}) {
   const made = document.createElement(name);
@@ -72,6 +81,7 @@ function start(events = null) {
   }
   prepareWords();
   prepareListing();
+  most = { events: FEW_ROWS, reservations: FEW_ROWS };
   const wrong = replay(events ?? program.events);
   show();
   byId("wrong").textContent = wrong;
@@ -144,12 +154,12 @@ function choose() {
 function showStep() {
   const step = driven.steps.at(-1);
   byId("step").classList.toggle("refused", Boolean(step?.refused));
-  byId("which").textContent = step ? `Event ${driven.steps.length}` : "Started";
-  byId("event").textContent = step?.event ?? "";
-  byId("verdict").textContent = step ? (step.refused ? "Refused" : "Made") : "";
+  write(byId("which"), step ? `Event ${step.number}` : "Started");
+  write(byId("event"), step?.event ?? "");
+  write(byId("verdict"), step ? (step.refused ? "Refused" : "Made") : "");
   byId("verdict").hidden = !step;
-  byId("answer").textContent = step?.answer ?? "";
-  byId("words").textContent = step?.words ?? said("booted");
+  write(byId("answer"), step?.answer ?? "");
+  write(byId("words"), step?.words ?? said("booted"));
 }
 
 /** The rows of the words that the deck shows. */
@@ -174,7 +184,7 @@ function showMachineNow() {
   const values = Object.fromEntries(Object.entries(driven.last.values).map(([name, it]) => [name, [it, numberOf(it)]]));
   const changed = Object.fromEntries((driven.last.changed ?? []).map((name) => [name, true]));
   showParts(now, driven.steps.length ? before : now, values, changed);
-  byId("drained").textContent = driven.machine.isDrained ? DRAINED[Number(driven.agrees())] : "";
+  write(byId("drained"), driven.machine.isDrained ? DRAINED[Number(driven.agrees())] : "");
 }
 
 function button(event, note) {
@@ -192,34 +202,63 @@ function setIdle(id, isIdle) {
   byId(id).setAttribute("aria-disabled", isIdle);
 }
 
+function refusal({ event, answer }, words) {
+  const row = element("li", "");
+  const why = element("span", "");
+  why.append(element("code", answer), ` ${words}`);
+  const tried = button(event, "");
+  tried.classList.add("plain");
+  row.append(tried, why);
+  return row;
+}
+
+/** Makes the children of an element those of these keys. A child that is there stays, because a browser takes long to
+ * lay out a whole table again. */
+function setChildren(parent, wanted) {
+  const there = new Map([...parent.children].map((child) => [child.key, child]));
+  const keys = new Set(wanted.map(([key]) => key));
+  there.forEach((child, key) => keys.has(key) || child.remove());
+  let at = parent.firstElementChild;
+  for (const [key, make] of wanted) {
+    const child = there.get(key) ?? Object.assign(make(), { key });
+    if (child === at) {
+      at = at.nextElementSibling;
+    } else {
+      parent.insertBefore(child, at);
+    }
+  }
+}
+
+/** Shows the events that can be tried; the button that gets the focus, if the one that had it is gone. */
 function showOffers() {
   const offers = driven.offers();
-  const held = document.activeElement?.closest("#may, #waits") ? document.activeElement.dataset : null;
+  const held = document.activeElement?.closest("#may, #waits") && document.activeElement;
   const [refused, made] = [true, false].map((is) => offers.filter((it) => isRefusal(it.answer) === is));
-  byId("may").replaceChildren(...made.map(({ event }) => button(event, driven.about(event))));
+  setChildren(byId("may"), made.map(({ event }) => {
+    const note = driven.about(event);
+    return [`${event}|${note}`, () => button(event, note)];
+  }));
   byId("none").hidden = made.length > 0;
-  byId("waits").replaceChildren(...refused.map((it) => {
-    const row = element("li", "");
-    const why = element("span", "");
-    why.append(element("code", it.answer), ` ${driven.words.why(it)}`);
-    const tried = button(it.event, "");
-    tried.classList.add("plain");
-    row.append(tried, why);
-    return row;
+  setChildren(byId("waits"), refused.map((it) => {
+    const why = driven.words.why(it);
+    return [`${it.event}|${it.answer}|${why}`, () => refusal(it, why)];
   }));
   byId("waiting").hidden = refused.length === 0;
   const next = driven.next();
-  byId("next").lastElementChild.textContent = next || "nothing can be made";
+  write(byId("next").lastElementChild, next || "nothing can be made");
   setIdle("next", next === "");
-  setIdle("undo", driven.steps.length === 0);
+  write(byId("redo").lastElementChild, driven.undone[0] ?? "an event taken back");
+  setIdle("redo", driven.undone.length === 0);
+  ["undo", "to-start"].forEach((id) => setIdle(id, driven.steps.length === 0));
   setIdle("drain", driven.machine.isDrained);
-  // The button that had the focus is made anew: that of the same event has it then, or of the same reservation, or the
-  // first one.
-  if (held !== null) {
-    const find = (name) => document.querySelector(`#events-now [data-${name}="${held[name]}"]`);
-    const same = find("event") ?? (held.row === "0" ? null : find("row"));
-    (same ?? byId("may").firstElementChild ?? byId("next")).focus({ preventScroll: true });
-  }
+  return held && !held.isConnected ? successor(held.dataset) : null;
+}
+
+/** The button of the same event as one that is gone, or of the same reservation, or the first one. */
+function successor(gone) {
+  const find = (name) => document.querySelector(`#events-now [data-${name}="${gone[name]}"]`);
+  const same = find("event") ?? (gone.row === "0" ? null : find("row"));
+  return same ?? byId("may").firstElementChild ?? byId("next");
 }
 
 /** The lines of the listing: for each the number of its line in the source program or 0, its address, its word and its
@@ -235,101 +274,128 @@ function listingLines() {
 /** Makes the rows of the listing, once for a program. */
 function prepareListing() {
   const lines = listingLines().slice(0, MOST_LINES);
-  byId("listing").replaceChildren(...lines.map(([number, address, word, text]) => {
-    const row = element("tr", "", { "data-at": program.source ? number : address });
+  const rows = lines.map(([number, address, word, text]) => {
+    const row = element("tr", "");
     cells(row, [address, word, text]);
-    return row;
-  }));
+    return [program.source ? number : address, row];
+  });
+  byId("listing").replaceChildren(...rows.map(([, row]) => row));
+  listing = new Map(rows);
+  marked = { row: null, parcel: "" };
+}
+
+/** How many instructions a word has from a parcel on. */
+function instructionsFrom(word, parcel) {
+  const rest = PASS.repeat(parcel) + word.slice(5 * parcel);
+  const [line] = library.list(`core 32\nword ${rest}\nstart 0\nend\n`).printed.split("\n");
+  return line.slice(28).split("; ").length - parcel;
 }
 
 /** Marks the instruction at a parcel in a row of the listing. */
 function markInstruction({ cells: [, word, text] }, parcel) {
   const parts = text.textContent.split("; ");
-  const here = parts.length - driven.replays.instructionsFrom(word.textContent, parcel);
+  const here = parts.length - instructionsFrom(word.textContent, parcel);
   text.replaceChildren(...parts.flatMap((it, n) => [...(n ? ["; "] : []), n === here ? element("mark", it) : it]));
 }
 
 /** Where the next instruction is: the number of its line or the address of its word, or none if that is open. The
- * listing has absolute addresses. */
+ * listing of a deck has absolute addresses, and no call tells that of the next instruction: it tells P, which is
+ * relative to RA. So RA is added here, which takes one rule of the machine. */
 function nextAt() {
-  const { now, parcel, isOpen } = driven.asking.state;
-  if (isOpen) {
+  const { now, parcel } = driven.asking.state;
+  if (driven.asking.isOpen) {
     return null;
   }
   return program.source ? program.source.lineAt(now.ra, now.p, Number(parcel)) : octal(now.ra + now.p, 6);
 }
 
-/** Marks the next instruction in the listing; its row, or none. */
+/** Marks the next instruction in the listing; its row, if another one is marked than before, or none. */
 function showListing() {
-  const last = byId("listing").querySelector(".here");
-  if (last) {
-    last.classList.remove("here");
-    last.removeAttribute("aria-current");
-    last.cells[2].textContent = last.cells[2].textContent;
+  write(byId("next-is"), `Next: ${driven.last.machine.Next}.`);
+  const last = marked;
+  marked = { row: listing.get(nextAt()) ?? null, parcel: driven.asking.state.parcel };
+  if (marked.row === last.row && marked.parcel === last.parcel) {
+    return null;
   }
-  byId("next-is").textContent = `Next: ${driven.last.machine.Next}.`;
-  const at = nextAt();
-  const here = at === null ? null : byId("listing").querySelector(`[data-at="${at}"]`);
-  if (here) {
-    here.classList.add("here");
-    here.setAttribute("aria-current", "true");
+  if (last.row) {
+    last.row.classList.remove("here");
+    last.row.removeAttribute("aria-current");
+    last.row.cells[2].textContent = last.row.cells[2].textContent;
+  }
+  if (marked.row) {
+    marked.row.classList.add("here");
+    marked.row.setAttribute("aria-current", "true");
     if (!program.source) {
-      markInstruction(here, Number(driven.asking.state.parcel));
+      markInstruction(marked.row, Number(marked.parcel));
     }
   }
-  return here;
+  return marked.row;
 }
 
-/** Makes the rows of a table those of these keys. A row that is there stays, because a browser takes long to lay out a
- * whole table again. */
-function setRows(body, wanted) {
-  const there = new Map([...body.rows].map((row) => [row.key, row]));
-  const keys = new Set(wanted.map(([key]) => key));
-  there.forEach((row, key) => keys.has(key) || row.remove());
-  let at = body.firstElementChild;
-  for (const [key, make] of wanted) {
-    const row = there.get(key) ?? Object.assign(make(), { key });
-    if (row === at) {
-      at = at.nextElementSibling;
-    } else {
-      body.insertBefore(row, at);
-    }
-  }
-}
+const isTimed = () => byId("minor-cycles").checked;
 
-function reservationRow([number, text, unit, ...others]) {
+function reservationRow(it) {
+  const { text, unit } = driven.asking.rows[it.number];
   const row = element("tr", "");
-  row.append(element("th", number, { scope: "row" }));
-  cells(row, [text, GIVEN.names[unit], ...others]);
+  row.append(element("th", it.number, { scope: "row" }));
+  const shown = (number) => (isTimed() ? driven.steps[number - 1].cycle : number);
+  cells(row, [text, GIVEN.names[unit], ...momentsOf(it, shown)]);
   return row;
 }
 
-function eventRow(it, number) {
+function eventRow(it) {
   const row = element("tr", "");
-  row.append(element("th", number, { scope: "row" }));
+  row.append(element("th", it.number, { scope: "row" }));
+  if (isTimed()) {
+    row.append(element("td", it.cycle, { class: "cycle" }));
+  }
   [it.event, it.answer].forEach((text) => row.appendChild(element("td", "")).append(element("code", text)));
   cells(row, [it.refused ? said("refused", { why: it.words }) : it.words]);
   row.classList.toggle("refused", it.refused);
   return row;
 }
 
+/** Shows what the numbers in the tables and above the columns are, and with minor cycles the total. */
+function showTotal() {
+  const { total } = driven.clock;
+  byId("cycle").hidden = !isTimed();
+  write(byId("counted"), isTimed() ? "A number is a minor cycle." : "A number is that of the event.");
+  write(byId("total"), isTimed() ? `${total} minor cycles in all. The number above a column is a minor cycle.` : "");
+}
+
+/** Draws all events again, with minor cycles or without. */
+function redraw() {
+  ["events", "reservations"].forEach((id) => byId(id).replaceChildren());
+  show();
+}
+
+/** Shows the last rows of the tables. */
 function showTables() {
-  const reservations = driven.reservations().slice(-MOST_ROWS);
-  setRows(byId("reservations"), reservations.map((it) => [it.join("|"), () => reservationRow(it)]));
-  const first = Math.max(driven.steps.length - MOST_ROWS, 0);
-  const steps = driven.steps.slice(first).map((it, n) => [it, () => eventRow(it, first + n + 1)]);
-  setRows(byId("events"), steps.reverse());
+  const steps = driven.steps.slice(-most.events).reverse();
+  setChildren(byId("events"), steps.map((it) => [it, () => eventRow(it)]));
+  byId("more-events").hidden = steps.length === driven.steps.length;
+  const rows = driven.reservations();
+  setChildren(byId("reservations"), rows.slice(-most.reservations).map((it) => [it, () => reservationRow(it)]));
+  byId("more-reservations").hidden = rows.length <= most.reservations;
+}
+
+/** Shows more rows of a table. */
+function showMore(name, count = MORE_ROWS) {
+  most[name] += count;
+  showTables();
 }
 
 function show() {
   showStep();
   showMachineNow();
-  showOffers();
-  timeline.draw(driven);
+  const focused = showOffers();
+  timeline.draw(driven, isTimed());
+  showTotal();
   const here = showListing();
   showTables();
-  byId("wrong").textContent = "";
+  write(byId("wrong"), "");
   // What asks for sizes comes last, so that the browser lays the page out once.
+  focused?.focus({ preventScroll: true });
   byId("scroll").scrollLeft = byId("scroll").scrollWidth;
   if (here) {
     byId("lines").scrollTop = here.offsetTop - byId("lines").clientHeight / 2;
@@ -352,11 +418,6 @@ function act(event) {
   }
 }
 
-function undo() {
-  driven.undo();
-  show();
-}
-
 /** Makes next events until what the form says, or issues until one is refused. */
 function goOn() {
   const kind = byId("end").value;
@@ -373,8 +434,8 @@ function goOn() {
     return;
   }
   const isAt = (made) => {
-    const { now, parcel, isOpen } = driven.asking.state;
-    return made > 0 && !isOpen && now.p === address && parcel === "0";
+    const { now, parcel } = driven.asking.state;
+    return made > 0 && !driven.asking.isOpen && now.p === address && parcel === "0";
   };
   const [isEnd, next] = {
     at: [isAt], changes: [() => driven.valueOf(what, number) !== before],
@@ -475,11 +536,19 @@ function listen() {
     "keep-session": () => keep("program.session", driven.session()),
     "keep-deck": () => keep("program.deck", driven.deck) };
   Object.entries(clicked).forEach(([id, work]) => byId(id).addEventListener("click", work));
+  for (const name of ["events", "reservations"]) {
+    byId(`more-${name}`).addEventListener("click", () => showMore(name));
+    window.addEventListener("beforeprint", () => driven && showMore(name, Infinity));
+  }
+  const shown = (work) => () => { work(); show(); };
   unlessIdle("next", () => act(driven.next()));
-  unlessIdle("undo", undo);
-  unlessIdle("drain", () => { driven.drain(); show(); });
+  unlessIdle("drain", shown(() => driven.drain()));
+  unlessIdle("undo", shown(() => driven.undo()));
+  unlessIdle("redo", shown(() => driven.redo()));
+  unlessIdle("to-start", shown(() => driven.undo(driven.steps.length)));
   byId("example").addEventListener("change", choose);
   byId("file").addEventListener("change", openFile);
+  byId("minor-cycles").addEventListener("change", redraw);
   byId("end").addEventListener("change", () => { byId("what").hidden = byId("end").value === "refused"; });
   const submitted = { until: goOn, other: () => act(byId("typed").value.trim()) };
   Object.entries(submitted).forEach(([id, work]) => byId(id).addEventListener("submit", (event) => {

@@ -47,51 +47,68 @@ class Timeline {
   constructor(picture, labels) {
     Object.assign(this, { picture, labels, frame: picture.parentElement });
     change(picture, SIZE);
-    this.begin(null);
+    this.driven = null;
   }
 
   /** Clears what is drawn. The rows of reservations have a group of their own, because that of the machine stays on top
    * if they move. */
   begin(driven) {
-    Object.assign(this, { driven, count: 0, last: null, items: [], bars: new Map(), names: [], first: 0, top: 1 });
+    const drawing = { steps: driven.steps, count: 0, items: [], bars: new Map(), names: [], first: 0, top: 1 };
+    Object.assign(this, { driven, ...drawing });
     [this.machine, this.reservations, this.named] = ["", "", ""].map(() => drawn("g", {}));
     this.picture.replaceChildren(this.machine, this.reservations);
     const paper = drawn("rect", { width: "100%", height: "100%", class: "paper" });
     this.labels.replaceChildren(paper, drawn("text", { x: 4, y: heightOf(0) }, MACHINE), this.named);
   }
 
-  /** Draws the last events of a driven machine, with the reservations that were pending then. */
-  draw(driven) {
-    const { steps } = driven;
-    if (this.driven !== driven || (steps[this.count - 1] ?? null) !== this.last) {
-      this.begin(driven);
-    }
+  /** Draws the last events of a driven machine, with the reservations that were pending then. A column has the minor
+   * cycle of its event at its head, or else the number of the event. */
+  draw(driven, isTimed) {
+    const { steps, asking: { rows } } = driven;
     const first = Math.max(Math.floor(steps.length / COLUMNS_TAKEN) - 2, 0) * COLUMNS_TAKEN;
+    if (this.driven !== driven || this.isTimed !== isTimed || first < this.first) {
+      this.begin(driven);
+      this.isTimed = isTimed;
+    }
+    this.takeBack(steps);
     for (let n = Math.max(this.count, first); n < steps.length; n++) {
       this.add(steps, n);
     }
-    Object.assign(this, { count: steps.length, last: steps.at(-1) ?? null });
+    this.count = steps.length;
     if (first > this.first) {
       this.items = kept(this.items, (it) => it.end >= first);
-      const top = Math.min(...this.items.map((it) => it.row || driven.asking.rows.length));
+      const top = Math.min(...this.items.map((it) => it.row || rows.length));
       Object.assign(this, { first, top });
     }
-    this.show(driven.asking.rows);
+    this.show(rows);
+  }
+
+  /** Takes the columns away of events that were taken back: then there is another list of steps. */
+  takeBack(steps) {
+    let count = this.steps === steps ? this.count : Math.min(this.count, steps.length);
+    while (count > 0 && this.steps[count - 1] !== steps[count - 1]) {
+      count -= 1;
+    }
+    if (count < this.count) {
+      this.items = kept(this.items, (it) => it.begin < count);
+      this.items.filter((it) => it.end >= count).forEach((it) => this.lengthen(it, count - 1));
+      this.bars = new Map(this.items.filter((it) => it.kind).map((it) => [it.row, it]));
+    }
+    Object.assign(this, { steps, count });
   }
 
   /** Draws the column of an event, with the bars that lead there from the event before it. */
   add(steps, n) {
-    const { mark, refused } = steps[n];
-    this.text(0, n, 16, "quiet", n + 1);
+    const { mark, refused, cycle } = steps[n];
+    this.text(0, n, 16, "quiet", this.isTimed ? cycle : n + 1);
     this.text(mark.row, n, heightOf(mark.row), refused ? "bad" : "", mark.mark);
     for (const [row, kind] of n ? barsIn(steps[n - 1].state) : []) {
       const bar = this.bars.get(row);
       if (bar?.kind === kind && bar.end === n - 1) {
-        bar.end = n;
-        bar.element.setAttribute("width", COLUMN * (n - bar.begin));
+        this.lengthen(bar, n);
       } else {
         const place = { x: middle(n - 1), y: heightOf(row) - 11, width: COLUMN, height: 14 };
-        const item = { row, kind, begin: n - 1, end: n, element: drawn("rect", { ...place, class: kind }) };
+        const item = { row, kind, begin: n, end: n, element: drawn("rect", { ...place, class: kind }) };
         this.bars.set(row, item);
         this.put(item, "prepend");
       }
@@ -100,7 +117,7 @@ class Timeline {
 
   text(row, n, y, name, text) {
     const element = drawn("text", { x: middle(n), y, "text-anchor": "middle", class: name }, text);
-    this.put({ row, end: n, element }, "append");
+    this.put({ row, begin: n, end: n, element }, "append");
   }
 
   put(item, where) {
@@ -108,16 +125,24 @@ class Timeline {
     (item.row ? this.reservations : this.machine)[where](item.element);
   }
 
+  /** Has a bar end at a column. It begins at the one before its first. */
+  lengthen(bar, end) {
+    bar.end = end;
+    bar.element.setAttribute("width", COLUMN * (end - bar.begin + 1));
+  }
+
   /** Adds the labels of new rows, and brings the rows in sight that have something in these columns. */
   show(rows) {
     const { first, top } = this;
+    const changed = this.names.find((it) => it.text !== rows[it.row]?.text)?.row ?? Infinity;
+    this.names = kept(this.names, (it) => it.row >= top && it.row < changed);
     for (let row = Math.max((this.names.at(-1)?.row ?? 0) + 1, top); row < rows.length; row++) {
-      const label = `${String(row).padStart(2)} ${rows[row].text}`;
+      const { text } = rows[row];
+      const label = `${String(row).padStart(2)} ${text}`;
       const element = drawn("text", { x: 4, y: heightOf(row), "xml:space": "preserve" }, label);
-      this.names.push({ row, element, size: label.length });
+      this.names.push({ row, text, element, size: label.length });
       this.named.append(element);
     }
-    this.names = kept(this.names, (it) => it.row >= top);
     const [left, up] = [MARGIN + 8 * Math.max(MACHINE.length, ...this.names.map((it) => it.size)), LINE * (1 - top)];
     const across = left - COLUMN * first;
     const height = LINE * (rows.length - top + 2) + MARGIN;

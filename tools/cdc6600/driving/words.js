@@ -5,9 +5,9 @@
 const OUT_OF_RANGE = "?fetch";
 
 class Words {
-  constructor(replays, asking) {
-    this.replays = replays;
+  constructor(asking, core) {
     this.asking = asking;
+    this.core = core;
   }
 
   get rows() { return this.asking.rows; }
@@ -32,11 +32,11 @@ class Words {
     if (!row) {
       return this.issueAlone(before, after);
     }
-    const { text, unit } = this.rows[row];
+    const { text, unit, isBranch } = this.rows[row];
     const awaited = awaitedIn(after).filter(([waiting]) => waiting === row);
     const producers = inOrder(new Set(awaited.map((it) => it[2]))).map(String);
     return said("issue", { text, unit: GIVEN.names[unit], number: String(row), results: resultsOf(after, row),
-      awaited: awaited.map((it) => it[1]), producers, branch: unit === "branch" });
+      awaited: awaited.map((it) => it[1]), producers, branch: isBranch });
   }
 
   issueAlone(before, { halt }) {
@@ -52,25 +52,22 @@ class Words {
   }
 
   read({ row, before }, unit) {
-    const values = operandsOf(before, row).map((register) => said("is", { register, value: valueIn(before, register) }));
+    const values = operandsOf(before, row)
+      .map((register) => said("is", { register, value: valueIn(before, register) }));
     const given = { unit: GIVEN.names[unit], it: this.reservation(row), values };
     return said(values.length ? "read" : "read of nothing", given);
   }
 
-  finish({ row, before }, unit) {
+  finish({ row }, unit) {
     const given = { unit: GIVEN.names[unit], it: this.reservation(row) };
-    if (unit === "branch") {
-      return said("finish of a branch", given);
-    }
-    const [register = ""] = resultsOf(before, row);
-    const value = register && this.replays.register(this.rows[row].after, register);
-    return said("finish", { ...given, register, value });
+    return this.rows[row].isBranch ? said("finish of a branch", given)
+      : said("finish", { ...given, ...this.asking.result(unit, row) });
   }
 
   store({ row, refers, before, after }, unit) {
-    const becomes = resultsOf(before, row).slice(0, 1)
+    const becomes = writtenBy(row, before, after)
       .map((register) => said("becomes", { register, value: valueIn(after, register) }));
-    if (unit === "branch") {
+    if (this.rows[row].isBranch) {
       becomes.push(said("goes on", { position: this.position(after) }));
     }
     becomes.push(said("free", { unit: GIVEN.names[unit] }));
@@ -84,18 +81,18 @@ class Words {
   }
 
   /** The word of a reference that waits in the hopper, and its bank. */
-  word(row, { addresses }) { return { address: addresses[row], bank: this.rows[row].bank }; }
+  word(row, { addresses, takers }) { return { address: addresses[row], bank: takers[row].bank }; }
 
   accept({ row, before, after }) {
     const { address, bank } = this.word(row, before);
     const channel = keyOf(after.channels, row) ?? "";
-    const stored = this.rows[row].unit === "branch" ? said("link") : octal(this.asking.word(address));
+    const stored = this.rows[row].isBranch ? said("link") : octal(this.asking.word(address));
     return said("accept", { bank, it: this.reservation(row), address, channel, stored,
       loaded: channel && plain(after.words[row]) });
   }
 
   loadReturn({ row, before, after }) {
-    const [register] = resultsOf(before, row);
+    const [register] = writtenBy(row, before, after);
     return said("return", { it: this.reservation(row), register, value: valueIn(after, register) });
   }
 
@@ -126,7 +123,7 @@ class Words {
     const coming = rows.filter((row) => row in state.phases);
     const entered = rows.filter((row) => !coming.includes(row));
     const given = () => ({ by: this.reservations(rows), register: named, bank: named, package: state.asked,
-      core: String(this.replays.core), next: state.next, parcel: state.parcel, ...this.part(event),
+      core: String(this.core), next: state.next, parcel: state.parcel, ...this.part(event),
       coming: this.reservations(coming), entered: this.reservations(entered) });
     return sentence((others[code] ?? (() => said(code, given())))());
   }
@@ -200,8 +197,8 @@ class Words {
 
   /** What is issued next. */
   next() {
-    const { isOpen, halt, now, next, address, parcel } = this.asking.state;
-    if (isOpen) {
+    const { halt, now, next, address, parcel } = this.asking.state;
+    if (this.asking.isOpen) {
       return said(halt === RUNNING ? "panel branch" : "panel none");
     }
     const text = next === OUT_OF_RANGE ? "" : next;
