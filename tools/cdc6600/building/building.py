@@ -18,6 +18,7 @@ from pathlib import Path
 
 from cdc6600.crates.kit import checker
 from cdc6600.crates.table import Unreadable
+from cdc6600.shared.program import ROOT
 
 from . import host
 from .forecast import Forecast, measured
@@ -25,6 +26,7 @@ from .processes import run, stop_all
 
 # What a verdict may not mention: C code, functions that may not return, and parts that were let pass without proof.
 EXCUSES = re.compile(r" (foreign|hides|partial|may-abort|may-serve|bugs|holes)=")
+SOURCE_SUM = ROOT / "tools/source-sum"
 # The file of a crate that has the version of the program.
 VERSION = "src/version.rt"
 # A crate without a measured time takes about as long as so many lines before it comes to any of its own.
@@ -86,6 +88,11 @@ def commit_of(root):
     status = [*git, "status", "--porcelain", "--", "crates", "crates.txt"]
     changed = subprocess.run(status, capture_output=True, check=False)
     return found.stdout.strip() + ("+" if changed.stdout else "")
+
+
+def source_sum(root):
+    """What an executable of a repository is built from, as tools/source-sum prints it."""
+    return subprocess.run([SOURCE_SUM, root], stdout=subprocess.PIPE, check=False).stdout
 
 
 def kit_name():

@@ -1,24 +1,31 @@
-"""The crate `embedding`, proved with all crates below it, as a static library and as the bitcode of that library.
+"""The crate `embedding`, proved with all crates below it, as a static library, as the shared one that is linked of it,
+and as the bitcode of these libraries.
 
-What is made is kept in the crate's folder `out`, for tools/build-library, tools/build-module and the checks.
+What is made is kept in the crate's folder `out`, for tools/build-library, tools/build-module, the tools that ask the
+machine (tools/cdc6600/asking) and the checks.
 """
 
+import shutil
 import tempfile
 import time
 from pathlib import Path
 
+from cdc6600.crates.kit import checker
 from cdc6600.crates.table import Table
-from cdc6600.shared.program import ROOT
+from cdc6600.shared.program import ROOT, is_current
 from cdc6600.wrong_bodies.libraries import is_left
 
 from . import keeping
-from .building import LIBRARY, Building, Product, Unproved, locked, put
+from .building import LIBRARY, Building, Product, Unproved, locked, put, source_sum, tell
 from .processes import run
 
-CRATE = "embedding"
+CRATE, PROGRAM = "embedding", "operator_main"
 HEADER = ROOT / "crates/embedding/include/cdc6600.h"
+# The functions that the shared library exports.
+EXPORTED = HEADER.with_name("cdc6600.map")
 KEPT = ROOT / "crates/embedding/out"
 ARCHIVE, BITCODE = "libcdc6600.a", "embedding.bc"
+SHARED, SONAME = "libcdc6600.so", "libcdc6600.so.0"
 NATIVE = "x86_64-unknown-linux-gnu"
 # For another processor the kit has no calls of the C library, and the caller supplies them.
 TARGETS = (NATIVE, "aarch64-unknown-linux-gnu")
@@ -31,15 +38,35 @@ def newest(table, names):
     return max(file.stat().st_mtime for file in [*files, table.root / "crates.txt"])
 
 
+def kept_by_program(table):
+    """The folder in which tools/build-program keeps the libraries of crates below the program."""
+    return table.folder(PROGRAM) / "out/libraries"
+
+
+def keep_libraries(building, sources):
+    """Keeps the libraries that were built below the program and stand below the crate too, with the sum of their
+    sources."""
+    folder, table = kept_by_program(building.table), building.table
+    below = table.below(CRATE) if CRATE in table.lines else ()
+    try:
+        shutil.rmtree(folder, ignore_errors=True)
+        folder.mkdir(parents=True)
+        for name in building.proved.intersection(below):
+            shutil.move(building.made(name), folder)
+        folder.with_name(f"{folder.name}.sources").write_bytes(sources)
+    except OSError as fault:
+        tell(f"the libraries of the crates aren't kept for tools/build-library: {fault.strerror}")
+
+
 def left_libraries(table):
-    """The libraries below the crate that `rt ci` has left, if it has left all of them and none is older than a source:
-    they fit only one another."""
+    """The libraries below the crate that `rt ci` has left, if it has left all of them and none is older than a source;
+    otherwise those that tools/build-program has left of the sources as they are. They fit only one another."""
     found = {name: table.folder(name) / "out/rlib" / f"{name}.rlib" for name in table.below(CRATE)}
-    for name, library in found.items():
-        names = [*table.below(name), name]
-        if not is_left(table.folder(name), name) or library.stat().st_mtime < newest(table, names):
-            return {}
-    return found
+    if all(is_left(table.folder(name), name) and
+           library.stat().st_mtime >= newest(table, [*table.below(name), name]) for name, library in found.items()):
+        return found
+    folder, below = kept_by_program(table), table.below(PROGRAM)
+    return {name: folder / f"{name}.rlib" for name in found if name in below} if is_current(folder) else {}
 
 
 def archive(building, target):
@@ -50,6 +77,16 @@ def archive(building, target):
     if ran.status:
         raise Unproved(f"{ran.said.rstrip()}\ncdc6600: the archive isn't made")
     return file
+
+
+def shared(kit, room, *parts):
+    """Links these parts with the C library into a shared one; its file."""
+    words = [f"{kit}/toolchain/bin/ld.lld", "-shared", f"--soname={SONAME}", f"--version-script={EXPORTED}",
+             "--gc-sections", *map(str, parts), f"{kit}/toolchain/lib/libc.so.6", "-o", str(room / SHARED)]
+    ran = run(words, room)
+    if ran.status:
+        raise Unproved(f"{ran.said.rstrip()}\ncdc6600: the shared library isn't linked")
+    return room / SHARED
 
 
 def prove(table, target, room, folder):
@@ -64,15 +101,30 @@ def prove(table, target, room, folder):
     put(archive(building, target), folder / ARCHIVE, begun)
 
 
+def keep_shared(folder, sources):
+    """Keeps the shared library that is linked of an archive, with the sum of the sources of both."""
+    archived, file = folder / ARCHIVE, folder / SHARED
+    if not file.is_file() or file.stat().st_mtime < archived.stat().st_mtime:
+        with tempfile.TemporaryDirectory(prefix="cdc6600-") as room:
+            parts = ("--whole-archive", archived, "--no-whole-archive")
+            put(shared(checker().parent.parent, Path(room), *parts), file, archived.stat().st_mtime)
+    file.with_name(f"{SHARED}.sources").write_bytes(sources)
+
+
 def kept(target=NATIVE):
-    """The folder with the archive and the bitcode of the sources as they are. If they are older, the crate is proved.
+    """The folder with the archive, the shared library and the bitcode of the sources as they are. If they are of
+    others, or older, the crate is proved.
 
     Raises Unproved if it isn't proved."""
     folder, table = KEPT if target == NATIVE else KEPT / target, Table(ROOT)
     files = [folder / name for name in (ARCHIVE, BITCODE)]
+    if target == NATIVE and is_current(folder / SHARED) and all(it.is_file() for it in files):
+        return folder
     with locked(folder / ARCHIVE):
-        changed = newest(table, [*table.below(CRATE), CRATE])
+        sources, changed = source_sum(ROOT), newest(table, [*table.below(CRATE), CRATE])
         if any(not it.is_file() or it.stat().st_mtime < changed for it in files):
             with tempfile.TemporaryDirectory(prefix="cdc6600-") as room:
                 prove(table, target, Path(room), folder)
+        if target == NATIVE:
+            keep_shared(folder, sources)
     return folder

@@ -4,8 +4,8 @@
 - It is unpacked in another folder, whose name has a space. There the commands of START.txt, with no variables of the
   environment except for a PATH of /usr/bin and /bin, print the stored dump and the stored timeline. The program beside
   the pages prints that dump too, and each tool its help text. All that START.txt names is there.
-- No file names the folder of this repository or that of the program. The program needs no later glibc than START.txt
-  says.
+- No file names the folder of this repository or that of the program. The program, and the library that the tools ask,
+  need no later glibc than START.txt says.
 - An archive is written over, and no other file: that, a link, a folder and a FILE that can't be are refused in a line.
 
 It says nothing where all is right, else a line for each fault. CDC6600 may name the program to pack. It needs Python in
@@ -20,7 +20,7 @@ import tarfile
 import tempfile
 from pathlib import Path
 
-from cdc6600.commands.install import DOCUMENTS, PROGRAM, TOOLS
+from cdc6600.commands.install import DOCUMENTS, OF_TOOLS, PROGRAM, TOOLS
 from cdc6600.installing.archive import FOLDER, TIME
 from cdc6600.shared.decks import FIRST, deck, session
 from cdc6600.shared.program import ROOT, Program, tell
@@ -118,10 +118,12 @@ class Unpacked:
         return faults + [f"{it.relative_to(self.folder)} names where it was made" for it in telling]
 
     def library(self):
-        """Whether the program needs a later glibc than START.txt says; the faults."""
-        latest = tuple(map(int, LATEST.search(self.start).groups()))
-        needed = max(tuple(map(int, it)) for it in NEEDED.findall((self.folder / PROGRAM).read_bytes()))
-        return [f"the program needs glibc {needed}, and START.txt says {latest}"] if needed > latest else []
+        """Whether the program or the library needs a later glibc than START.txt says; the faults."""
+        latest, faults = tuple(map(int, LATEST.search(self.start).groups())), []
+        for name in (PROGRAM, OF_TOOLS):
+            needed = max(tuple(map(int, it)) for it in NEEDED.findall((self.folder / name).read_bytes()))
+            faults += [f"{name} needs glibc {needed}, and START.txt says {latest}"] if needed > latest else []
+        return faults
 
 
 def faults_in(room):

@@ -1,7 +1,7 @@
 """Tries what tools/timeline and tools/gallery draw by minor cycles.
 
 - A session with times that are given here is drawn as text, as a picture and as a page, and each mark has to be in the
-  cycle that was counted by hand. The picture of a page stays where it is at events of no reservation.
+  cycle that was counted by hand. The picture of a loop's page stays where it is at events of no reservation.
 - The table of the reservations has the events and the minor cycles that were counted by hand, and what held each one:
   as text, as JSON, and on the pages of a session and of two schedules.
 - The pictures begin at the first issue. Each unit has its reservations in the picture of the units. For paper the
@@ -25,8 +25,8 @@ from pathlib import Path
 
 from cdc6600.drawing.following import RESERVED
 from cdc6600.drawing.forms import BAR_RISE, COLOURS
-from cdc6600.drawing.instructions import NAMES
 from cdc6600.drawing.page import DATA
+from cdc6600.drawing.units import NAMES
 from cdc6600.shared.decks import FOLDER, deck, session
 from cdc6600.shared.program import ROOT, tell
 from cdc6600.shared.waiting import run
@@ -46,6 +46,8 @@ COUNTED = [0, 0, 0, 2, 4, 4, 4, 4, 7, 7, 7, 10, 10, 10, 14, 14, 14, 15]
 # Where its rows begin that aren't issued by so many events. Four are issued, by the events 3, 4, 5 and 17.
 BELOW = [*[72] * 3, 94, 116, *[138] * 12, 160, 160]
 TOTALS = [("Minor cycles", "15"), ("Instructions", "4"), ("Instructions a minor cycle", "0.267")]
+# A loop with loads, a pass and a stop.
+LOOP = "START SB1 2\nLOOP SA1 B1+WORDS\n SB1 B1-1\n NO\n NE B1,B0,LOOP\n PS\nWORDS BSS 3\n"
 # What a page says of its numbers.
 OCTAL = "Addresses, packages, words, the values of registers and the numbers in instructions are octal"
 # What each row has in its cycles.
@@ -137,12 +139,22 @@ def faults_of_page(words):
     return faults + [f"the page has the totals {totals}, and should have {TOTALS}"] * (totals != TOTALS)
 
 
-def faults_in_sight():
-    """Where the picture of a page moves at an event of no reservation that comes after one."""
-    steps = json.loads(DATA.search(printed(TIMELINE, "--html", session("one-bank").file))[1])["steps"]
-    moved = [f"the picture moves at {step['event']}" for before, step in zip(steps, steps[1:])
-             if step["event"].split(" ")[0] in ("bank", "end") and step["line"] != before["line"]]
-    return moved if len({step["line"] for step in steps}) > 1 else [*moved, "the picture never moves"]
+def is_of_machine(step):
+    """Whether an event is of no reservation: a bank is freed, a pass or a stop is issued, or the session ends."""
+    kind = step["event"].split(" ")[0]
+    return kind in ("bank", "end") or (kind, step["answer"]) == ("issue", "ok")
+
+
+def faults_in_sight(folder):
+    """Where the picture of the page of a loop moves at an event of no reservation that comes after one."""
+    (folder / "loop.source").write_text(LOOP, encoding="ascii")
+    (folder / "loop.session").write_text(printed(SCHEDULE, folder / "loop.source"), encoding="ascii")
+    steps = json.loads(DATA.search(printed(TIMELINE, "--html", folder / "loop.session"))[1])["steps"]
+    pairs = [(before, step) for before, step in zip(steps, steps[1:]) if is_of_machine(step)]
+    kinds = {step["event"].split(" ")[0] for _, step in pairs}
+    faults = [f"the picture moves at {step['event']}" for before, step in pairs if step["line"] != before["line"]]
+    faults += [f"the page of a loop has {kinds} of no reservation"] * (kinds != {"bank", "issue", "end"})
+    return faults if len({step["line"] for step in steps}) > 1 else [*faults, "the picture never moves"]
 
 
 def cells_of(table):
@@ -346,7 +358,7 @@ def main():
         (folder / "times").write_text(TIMES, encoding="ascii")
         words = ["--cycles", "--times", folder / "times", session("conflicts").file]
         faults = [fault for work in (faults_of_text, faults_of_picture, faults_of_page) for fault in work(words)]
-        faults += faults_in_sight()
+        faults += faults_in_sight(folder)
         for name in TABLES:
             faults += faults_of_table(folder, name)
         faults += faults_of_json(folder)

@@ -8,13 +8,14 @@ what they and the library's functions print and tell with what is stored for the
   its log, dump, registers and words are those of the dump. The events that cdc6600_next makes are answered as a session
   of their lines answers them, and lead to the dump of the deck's run, and so do those of cdc6600_advance, which stops
   at an address. After each event, in sessions that are drawn too, the contents of the parts, the reserved registers and
-  the awaited operands are those of the session's drawing, and so are the answer that each event would get and the
-  reservations that hold it back.
+  the awaited operands are those of the second reading of the rules, and so are the answer that each event would get and
+  the reservations that hold it back.
   Lines that say no event, calls without a machine and with one that isn't drained, and a machine in place of another.
 - The examples in C and in Rust on each deck and each session; those in C and Python with files that aren't there, with
   an output that can't be written, and, in Python, with a reader that leaves and an interrupt.
 - The version, which the program, the header and the library have alike; each function of the header is declared for
-  Rust and for Python; and tools/install with `pkg-config`.
+  Rust and for Python; the shared library exports these alone, and needs the C library alone; and tools/install with
+  `pkg-config`.
 - By refused_memory.c, each request for memory refused in turn, under valgrind if that is there. It tells of memory that
   isn't given back.
 
@@ -26,7 +27,6 @@ Run it after a change of the crate `embedding`, its header, its examples or docs
 """
 
 import ctypes
-import importlib.util
 import os
 import re
 import shutil
@@ -39,6 +39,7 @@ from concurrent.futures import ThreadPoolExecutor
 from itertools import pairwise
 from pathlib import Path
 
+from cdc6600.asking.library import DECLARATIONS, declarations
 from cdc6600.limits import MOST_INSTRUCTIONS
 from cdc6600.shared.decks import PAGES, deck, decks, lines_of, log_of, rows_of, session, sessions
 from cdc6600.shared.program import ROOT, Ran, tell
@@ -47,7 +48,7 @@ from cdc6600.shared.waiting import Missing, faults_found, run
 from . import kept_machine
 from .debian import provide
 
-PAGE, EXAMPLE = ROOT / "docs/use/emulators.md", ROOT / "crates/embedding/examples/cdc6600.py"
+PAGE = ROOT / "docs/use/emulators.md"
 KEPT = ROOT / "crates/embedding/out"
 HEADER = ROOT / "crates/embedding/include/cdc6600.h"
 SMALL_STACK = 64 * 1024
@@ -95,7 +96,7 @@ class Room:
         if not named and subprocess.run([ROOT / "tools/build-library", KEPT], check=False).returncode:
             raise Unbuilt("the library could not be built")
         (self.folder / "out").mkdir()
-        for name in ("libcdc6600.a", "cdc6600.h"):
+        for name in ("libcdc6600.a", "libcdc6600.so", "cdc6600.h"):
             (self.folder / "out" / name).symlink_to(Path(named or KEPT).resolve() / name)
         for command in filter(None, map(BUILDING.fullmatch, lines_of(PAGE))):
             self.run(command[1])
@@ -116,11 +117,8 @@ class Room:
 
 def library(file):
     """The library, by the class of the example in Python, whose other class kept_machine gets."""
-    spec = importlib.util.spec_from_file_location("cdc6600", EXAMPLE)
-    module = importlib.util.module_from_spec(spec)
-    spec.loader.exec_module(module)
-    kept_machine.Machine = module.Machine
-    return module.Library(file)
+    kept_machine.Machine = declarations().Machine
+    return declarations().Library(file)
 
 
 def called(function, *given):
@@ -214,19 +212,21 @@ def faults_of_version(functions):
 def faults_of_declarations():
     """The functions that a language's declarations lack of those of the header, or have besides."""
     header = set(re.findall(r"\b(cdc6600_\w+)\(", HEADER.read_text(encoding="utf-8")))
-    rust = set(re.findall(r"fn (cdc6600_\w+)", EXAMPLE.with_suffix(".rs").read_text(encoding="utf-8")))
-    text = EXAMPLE.read_text(encoding="utf-8")
+    rust = set(re.findall(r"fn (cdc6600_\w+)", DECLARATIONS.with_suffix(".rs").read_text(encoding="utf-8")))
+    text = DECLARATIONS.read_text(encoding="utf-8")
     python = {name for name in header if re.search(rf'"{name}"|"{name[8:]}"|\.{name}\b', text)}
     return differing("the functions in Rust", (header,), (rust,)) + differing("those in Python", (header,), (python,))
 
 
 def faults_of_exports(room):
-    """The soname of the shared library, and what it exports besides the header's functions."""
+    """The soname of the shared library, what it needs besides the C library, and what it exports besides the header's
+    functions."""
     shared = room.folder / "out/libcdc6600.so"
     dynamic = run(["readelf", "-d", shared], capture_output=True, text=True).stdout
     exported = run(["nm", "-D", "--defined-only", shared], capture_output=True, text=True).stdout.split()[2::3]
     header = sorted(set(re.findall(r"\b(cdc6600_\w+)\(", HEADER.read_text(encoding="utf-8"))))
-    faults = differing("the soname", (["libcdc6600.so.0"],), (re.findall(r"soname: \[(.*)\]", dynamic),))
+    faults = differing("what it needs", (["libc.so.6"],), (re.findall(r"\(NEEDED\).*\[(.*)\]", dynamic),))
+    faults += differing("the soname", (["libcdc6600.so.0"],), (re.findall(r"soname: \[(.*)\]", dynamic),))
     return faults + differing("the exports", (header,), (sorted(exported),))
 
 
@@ -264,7 +264,7 @@ class Python:
     """The example in Python, as a program."""
 
     def __init__(self, room):
-        self.words, self.library = [sys.executable, str(EXAMPLE)], str(room.folder / "out/libcdc6600.so")
+        self.words, self.library = [sys.executable, str(DECLARATIONS)], str(room.folder / "out/libcdc6600.so")
 
     def faults(self, room):
         """How it ends with wrong words, and where its output can't be written; the faults."""

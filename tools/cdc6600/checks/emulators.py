@@ -32,6 +32,7 @@ from concurrent.futures import ThreadPoolExecutor
 from pathlib import Path
 from xml.etree import ElementTree
 
+from cdc6600.asking.library import library_path
 from cdc6600.comparing.coverage import Coverage, shown_by
 from cdc6600.comparing.emulator import Emulator
 from cdc6600.comparing.faults import BadInput, ended
@@ -419,6 +420,8 @@ def all_faults():
 
 def work():
     provide("emulators")
+    # The tools that it calls would say that they build the library.
+    library_path()
     return tell(faults_of(all_faults))
 
 

@@ -23,8 +23,7 @@ import tempfile
 from concurrent.futures import ThreadPoolExecutor
 
 from cdc6600.drawing.following import Fault, Following, Session, text_of
-from cdc6600.drawing.judging import states_of
-from cdc6600.drawing.values import REGISTERS, all_values
+from cdc6600.drawing.values import REGISTERS
 from cdc6600.shared.program import ROOT, Program, tell
 from cdc6600.shared.waiting import faults_found, run
 from cdc6600.timing.clock import clocked
@@ -33,6 +32,9 @@ from cdc6600.timing.exploring import Exploration
 from cdc6600.timing.graph import Graph
 from cdc6600.timing.scheduling import Schedule
 from cdc6600.timing.times import read_times
+
+from .judging_by_rules import Judge, values_of
+from .states_by_rules import readings_of
 
 DECK = "core 128\nat 41\nword 100000000000000\nword 20000000000000\nat 100\ncode {}\nstart 40\nend\n"
 # What is counted: the states, the events between them, the schedules, and the cycles of a shortest and a longest one.
@@ -108,7 +110,9 @@ def faults_of_values(program, session, exploration, data):
     faults, paths = [], Graph(exploration, "deck", []).paths
     for name, moment in zip(("shortest", "longest"), exploration.extremes()):
         following = followed(program, session, moment.events)
-        for number, values in zip(paths[name], all_values(following, states_of(following))):
+        readings = readings_of(program, following.session, following.answers)
+        for number, reading in zip(paths[name], readings):
+            values = values_of(Judge(reading))
             wanted = [f"{it} {int(values[it], 8):o}" for it in REGISTERS if int(values[it], 8)]
             text = f"registers, in octal: {', '.join([*wanted, 'all others 0'])}"
             came = data[number]["has"][-1]
@@ -155,7 +159,8 @@ def faults_of_wrong(program):
     state = next(node for node in exploration.nodes if len(node.edges) > 1)
     event, _ = state.edges.popitem()
     state.refusals[event] = "E15 nothing"
-    exploration.judge_of = lambda node: Lying(event if node is state else None, Exploration.judge_of(exploration, node))
+    exploration.machine_at = lambda node: Lying(
+        event if node is state else None, Exploration.machine_at(exploration, node))
     if is_confirmed(program, session, exploration):
         faults.append("an accepted event that is taken for refused isn't found out")
     other = explored(program, session)
@@ -168,14 +173,14 @@ def faults_of_wrong(program):
 
 
 class Lying:
-    """A judge that takes one event for refused."""
+    """A machine that takes one event for refused."""
 
-    def __init__(self, event, judge):
-        self.event, self.judge = event, judge
+    def __init__(self, event, machine):
+        self.event, self.machine = event, machine
 
-    def refusal(self, event):
+    def judge(self, event):
         """The refusal of an event."""
-        return self.judge.refusal("accept 0" if event == self.event else event)
+        return self.machine.judge("accept 0" if event == self.event else event)
 
 
 def faults_of_call(words, status, told):

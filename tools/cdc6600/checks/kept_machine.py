@@ -4,16 +4,17 @@ import random
 import re
 from dataclasses import dataclass
 
-from cdc6600.drawing.following import PLACES, Following, Session
-from cdc6600.drawing.instructions import KINDS, NAMES, kind_of, operands_of, stores
-from cdc6600.drawing.judging import Judge
-from cdc6600.drawing.states import CHANNELS, State
-from cdc6600.drawing.values import text_now
+from cdc6600.asking.states import CHANNELS, PLACES
+from cdc6600.drawing.following import Session
+from cdc6600.drawing.units import NAMES
 from cdc6600.limits import BANKS
 from cdc6600.shared.decks import deck, log_of, session
 from cdc6600.shared.program import Ran
 
 from .drawn_sessions import DrawnDeck, Driver
+from .judging_by_rules import Judge, text_now
+from .states_by_rules import Reading
+from .texts_by_rules import KINDS, kind_of, operands_of, stores
 
 MISSING, NOT_DRAINED, REFUSED, USAGE = 8, 9, 1, 2
 LONGEST_LINE = 200
@@ -76,7 +77,7 @@ UNITS = ("branch", "boolean", "shift", "longadd", "divide", "increment1", "incre
 # the deck is one more.
 JUDGED = (
     "exchange", "issue", *(f"{kind} {unit}" for unit in NAMES for kind in ("read", "finish", "store")),
-    *(f"accept {place}" for place in range(PLACES)), *(f"return {channel}" for channel in CHANNELS),
+    *(f"accept {place}" for place in PLACES), *(f"return {channel}" for channel in CHANNELS),
     *(f"bank {bank}" for bank in range(BANKS)), "ppread 0", "ppread 110", "ppwrite 120 17", "ppread 777777",
     "ask 777777", "accept 9", "return 0", "bank 40",
 )
@@ -91,7 +92,7 @@ Machine = None
 
 
 class Program:
-    """The library's functions in the form in which Following asks the program."""
+    """The library's functions in the form in which the second reading asks the program."""
 
     path = "the library"
 
@@ -238,32 +239,30 @@ def answer_of(judge, event, number):
 
 
 def faults_of_contents(make, functions, it):
-    """The contents of the parts of a machine after each event of a session, and how it judges events then, against what
-    the drawings show and judge, which follow the answers."""
-    following = Following(Program(functions), Session(str(it), it.text.decode("latin-1")), None, None)
-    following.follow()
-    faults, state, issued = [], State(), 0
+    """The contents of the parts of a machine after each event of a session, and how it judges events then, against the
+    second reading of the rules, which follows the answers."""
+    session = Session(str(it), it.text.decode("latin-1"))
+    faults, reading, answers = [], Reading(Program(functions), session), functions.events(it.text)[0].decode()
     with make() as machine:
         machine.boot(it.text)
-        for n, event in enumerate(following.session.events):
+        for n, (event, answer) in enumerate(zip(session.events, answers.splitlines())):
             if event == "end":
                 break
             if event == "drain":
                 machine.drain()
             else:
                 machine.event(event.encode())
-            state = state.after(following, n)
-            issued += event == "issue" and following.answers[n].startswith("ok ")
-            judge, after = Judge(state, following, following.logs[n]), f"after event {n + 1} of {it}, {event}"
+            reading.read(event, answer)
+            judge, after = Judge(reading), f"after event {n + 1} of {it}, {event}"
             wanted = contents_of(judge)
             came = {part: lines_of_contents(machine, part) for part in wanted}
             faults += differing(f"the contents {after}", wanted, came)
-            faults += faults_of_judging(after, machine, judge, issued + 1)
+            faults += faults_of_judging(after, machine, judge, len(reading.rows))
     return faults
 
 
 def faults_of_judging(after, machine, judge, number):
-    """How a machine judges events, against how the drawings do. An issue to a unit would get this number."""
+    """How a machine judges events, against the second reading. An issue to a unit would get this number."""
     faults = []
     for event in (*JUDGED, *re.findall("^start [0-7]+$", judge.replays.session.text, re.MULTILINE)):
         event = event.replace("start", "ask")

@@ -7,8 +7,11 @@ reading of the session, second_reading.py, which asks the machine itself.
 A deck is one of decks/run, or a small one that is drawn. Its events are drawn one after another, some that fit and some
 that don't, and each is asked for when the one before it was answered. What is compared for each step: the event and its
 answer, the units with their reservations and phases, the places of the hopper, the load channels, the busy banks, the
-reserved registers and the package that is asked for; and that what tools/cdc6600/drawing/judging.py expects of the
-event is what the program answered.
+reserved registers and the package that is asked for.
+
+What the machine tells the page of each step is also compared with the second reading of the rules, states_by_rules.py
+and judging_by_rules.py: all of these parts, the halt and the fault, the reason for each refusal and who holds the event
+back; and that what the rules expect of the event is what the program answered.
 
 It says nothing where all agree, else the seed, the session's number and what differs. CDC6600 may name the program.
 
@@ -24,9 +27,12 @@ from cdc6600.drawing.page import Page, data_of
 from cdc6600.shared.program import Program, tell
 
 from .drawn_sessions import drawn_session
+from .judging_by_rules import Judge
 from .second_reading import SecondReading
+from .states_by_rules import readings_of
 
 SESSIONS = 20
+PARTS = ("units", "phases", "places", "channels", "banks", "registers", "asked", "fault", "halt", "pending")
 
 
 def shown(step):
@@ -52,6 +58,21 @@ def differences(step, event, answer, parts):
     return [f"{name}: the page has {came}, and the machine {wanted}" for name, came, wanted in pairs if came != wanted]
 
 
+def differences_by_rules(page, n, answer, judge, state):
+    """What the machine tells of an event and of the state after it otherwise than the rules say."""
+    expected, came = judge.refusal(page.following.session.events[n]), page.retracing.states[n + 1]
+    pairs = [(name, getattr(came, name), getattr(state, name)) for name in PARTS]
+    pairs.append(("loaded", set(came.loaded), state.loaded))
+    if answer.startswith("E") and expected:
+        refusal = page.retracing.refusals[n]
+        pairs.append(("refusal", (refusal.answer, refusal.rows), (expected.answer, expected.rows)))
+    found = [f"{name}: the machine tells {told}, and by the rules it is {wanted}"
+             for name, told, wanted in pairs if told != wanted]
+    if answer.startswith("E") and (not expected or expected.answer != answer) or answer[:2] == "ok" and expected:
+        found.append(f"{answer} is answered, and {expected.answer if expected else 'ok'} is expected")
+    return found
+
+
 def faults_of(program, draw):
     """Makes a session and its page; what differs."""
     deck, made, printed = drawn_session(program, draw)
@@ -61,12 +82,13 @@ def faults_of(program, draw):
     following.follow()
     page = Page(following, "a random session")
     steps = data_of(page)["steps"]
-    reading, faults = SecondReading(program, deck), []
+    second, faults = SecondReading(program, deck), []
+    readings = readings_of(program, following.session, following.answers)
+    judge = Judge(next(readings))
     for n, (event, answer) in enumerate(made):
-        found = differences(steps[n], event, answer, reading.read(event, answer))
-        expected = page.words.judge(n).refusal(event)
-        if answer.startswith("E") and (not expected or expected.answer != answer) or answer[:2] == "ok" and expected:
-            found.append(f"{answer} is answered, and {expected.answer if expected else 'ok'} is expected")
+        found, reading = differences(steps[n], event, answer, second.read(event, answer)), next(readings)
+        found += differences_by_rules(page, n, answer, judge, reading.state)
+        judge = Judge(reading)
         faults += [f"event {n + 1}, {event}: {fault}" for fault in found]
     return faults + ([f"the session: {text!r}"] if faults else [])
 

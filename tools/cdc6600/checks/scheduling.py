@@ -6,8 +6,8 @@
   cycles from its issue to its last event. For the same log the default policy takes no more cycles than the one in
   program order.
 - For five decks the cycle of each event is the one that the clock gives the session when it is followed. By the
-  default policy the waits that the machine named are those that the rules name, too. The waits of each reservation are
-  its holds in the table of the reservations.
+  default policy the waits of the schedule are those of its session, too. The waits of each reservation are its holds in
+  the table of the reservations, and what holds it is that which the second reading of the rules says.
 - Two decks whose cycles were counted by hand have just those.
 - Bad options, decks and files of times give one line.
 
@@ -29,7 +29,10 @@ from cdc6600.shared.waiting import faults_found, run
 from cdc6600.timing.clock import ORDER, clocked
 from cdc6600.timing.scheduling import POLICIES, PROGRAM_ORDER, TIMED, Schedule
 from cdc6600.timing.times import DEFAULT, read_times
-from cdc6600.timing.waits import Account, account, faults_of
+from cdc6600.timing.waits import Account, Judged, account, faults_of
+
+from .judging_by_rules import Judge
+from .states_by_rules import readings_of
 
 BUDGET = 500
 # The decks whose sessions are followed too.
@@ -95,20 +98,42 @@ def faults_of_session(program, deck, schedule):
     return faults
 
 
-def faults_of_following(schedule, times):
+class JudgedTwice(Judged):
+    """Says by a machine what a part of a session waits for, and compares that with the second reading of the rules."""
+
+    def __init__(self, program, following):
+        super().__init__(following)
+        self.readings, self.read, self.faults = readings_of(program, following.session, following.answers), -1, []
+
+    def go_to(self, n):
+        """Goes on until so many events are made."""
+        super().go_to(n)
+        while self.read < n:
+            self.read, self.reading = self.read + 1, next(self.readings)
+
+    def refusal(self, part):
+        """The refusal of a part's next event, or none."""
+        event, found = self.event(part), super().refusal(part)
+        wanted = Judge(self.reading).refusal(event)
+        came, wanted = ((it.answer, it.rows) if it else None for it in (found, wanted))
+        self.faults += [f"{event} is held by {came}, by the rules {wanted}"] * (came != wanted)
+        return found
+
+
+def faults_of_following(program, schedule, times):
     """Whether the session of a schedule has the same cycles and waits when it is followed."""
     following = schedule.followed()
     came, wanted = clocked(following, times), [*schedule.cycles, schedule.clock.now]
     faults = [f"followed, its events have the cycles {came}, not {wanted}"] * (came != wanted)
-    found = Account(following, times)
+    found = Account(following, times, functools.partial(JudgedTwice, program))
     judged = found.clock
-    faults += faults_of(judged)
+    faults += faults_of(judged) + found.judged.faults
     for it in judged.parts:
         held = sum(hold.cycles for hold in found.holds[it.number].values() if hold.event != "issue")
         faults += [f"part {it.number} is held {held} cycles, and waits {it.waits.total()}"] * (held != it.waits.total())
     if schedule.policy == TIMED:
         pairs = zip([judged.issuing, *judged.parts], [schedule.clock.issuing, *schedule.clock.parts])
-        faults += [f"part {it.number} waits for {dict(it.waits)} by the rules, for {dict(ours.waits)} by the machine"
+        faults += [f"part {it.number} waits for {dict(it.waits)} in the session, for {dict(ours.waits)} in the schedule"
                    for it, ours in pairs if it.waits != ours.waits]
     return faults
 
@@ -119,7 +144,7 @@ def faults_of_deck(program, times, deck):
     faults = []
     for policy, schedule in made.items():
         found = faults_of(schedule.clock) + faults_of_session(program, deck, schedule)
-        found += faults_of_following(schedule, times) if deck.name in FOLLOWED else []
+        found += faults_of_following(program, schedule, times) if deck.name in FOLLOWED else []
         faults += [f"{policy}: {fault}" for fault in found]
     timed, in_order = made[TIMED], made[PROGRAM_ORDER]
     if timed.clock.now > in_order.clock.now and timed.log.text == in_order.log.text:

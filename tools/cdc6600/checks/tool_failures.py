@@ -38,7 +38,7 @@ from cdc6600.drawing.following import Following, Session
 from cdc6600.drawing.forms import MOST_COLUMNS, Form
 from cdc6600.shared.decks import FIRST, FOLDER, RUN, SESSIONS, session
 from cdc6600.shared.reading import MOST
-from cdc6600.shared.program import ROOT, Program, Ran, tell
+from cdc6600.shared.program import ROOT, Program, tell
 from cdc6600.shared.waiting import Missing, faults_found, finish, input_of, run
 
 from .refused_starts import PROCESS, THREAD
@@ -55,8 +55,11 @@ exec "$PROGRAM" "$@"
 """
 # The events of two sessions, one of which has four times as many, and how many times as long it may take.
 LONG, MOST_TIMES = (2000, 8000), 9
-OF_LONG_ADD, PASSES = ("issue", "read longadd", "finish longadd", "store longadd"), "46000" * 4
-SESSION_BEGIN = "core 256\nstart 40\nend\nask 40\nexchange\n"
+OF_LONG_ADD = ("issue", "read longadd", "finish longadd", "store longadd")
+# A word of four sums, and the deck in which such words are at address 0 of the program.
+SUMS, DECK_BEGIN = "36312" * 4, "core 2048\nat 41\nword 100000000000000\nword 2000000000000000\nat 100\n"
+SESSION_BEGIN = "ask 40\nexchange\n"
+EMPTY_DECK = "core 256\nstart 40\nend\n"
 ESCAPE = "\x1b[31m"
 SESSION, DECK, SOURCE = str(SESSIONS / "conflicts.session"), str(FIRST), str(FOLDER / "source/total.source")
 # A file without an end, what a tool says of one, and the memory in which it has to say it.
@@ -179,51 +182,31 @@ def faults_of_memory(tool, folder, program):
             return [*faults, f"{tool.shown}: {most} bytes of memory aren't enough"]
 
 
-class Instant:
-    """A program that answers at once. Whatever the log is, each instruction of its listings and its dumps is the same:
-    one of Long Add, in the first parcel of a word that isn't held."""
-
-    path = "a program that answers at once"
-
-    def __init__(self, answers):
-        self.answers = answers
-
-    def run(self, words, _text):
-        """Lists a word, or answers the events."""
-        listed = " " * 28 + "IX3 X1+X2; NO; NO; NO\n"
-        return Ran(0, (listed if words == ["list"] else self.answers).encode(), b"")
-
-    @staticmethod
-    def replay(log, _text):
-        """Replays any log."""
-        state = ["P 000000 PARCEL 0 HELD none", "HALT running", "RA 000000 FL 000377 EM 0", *["A 0"] * 2, *["X 0"] * 8]
-        return Ran(0, "\n".join([*state, f"M 000000 {PASSES}", f"LOG {log}", ""]).encode(), b"")
-
-
 def session_of(events):
-    """A session with so many events of Long Add, and the program that answers it."""
-    many = range(1, events // len(OF_LONG_ADD) + 1)
-    answers = "".join(f"ok longadd {number}\nok\nok\nok\n" for number in many)
-    return SESSION_BEGIN + "".join(f"{event}\n" for event in OF_LONG_ADD) * len(many), Instant(f"ok\nok\n{answers}")
+    """A session with so many events of Long Add."""
+    many = events // len(OF_LONG_ADD)
+    words = "".join(f"word {SUMS}\n" for _ in range(0, many, 4))
+    made = "".join(f"{event}\n" for event in OF_LONG_ADD) * many
+    return f"{DECK_BEGIN}{words}start 40\nend\n{SESSION_BEGIN}{made}"
 
 
-def seconds_of(events):
+def seconds_of(program, events):
     """The seconds of the processor that it takes to draw so many events as text."""
-    text, program = session_of(events)
+    session = Session("a long session", session_of(events))
     begun = time.process_time()
-    following = Following(program, Session("a long session", text), None, None)
+    following = Following(program, session, None, None)
     following.follow()
     for _ in Form(following).lines():
         pass
     return time.process_time() - begun
 
 
-def faults_of_long_sessions(folder):
+def faults_of_long_sessions(folder, program):
     """Draws long sessions; the faults."""
-    short, long = (min(seconds_of(events) for _ in range(2)) for events in LONG)
+    short, long = (min(seconds_of(program, events) for _ in range(2)) for events in LONG)
     faults = [f"{LONG} events are drawn in {short:.2f} and {long:.2f} seconds"] if long > MOST_TIMES * short else []
     file = folder / "long.session"
-    file.write_text(session_of(MOST_COLUMNS)[0], encoding="utf-8")
+    file.write_text(session_of(MOST_COLUMNS), encoding="utf-8")
     for name, *words in (("timeline", "--svg"), ("timeline", "--html"), ("gallery", f"{folder}/long")):
         tool = Tool(name, (*words, str(file)))
         came = ended(tool, [ROOT / f"tools/{name}", *tool.words], os.environ.get("CDC6600", ""))
@@ -270,7 +253,7 @@ def calls_with_escapes(folder):
     answers = re.sub("^(E7 .*)$", rf"\1{ESCAPE}", stored.answers.decode(), flags=re.MULTILINE)
     texts = {
         "a.source": f"START  PS   {ESCAPE}\n", "a.answers": answers, "a.times": f"{ESCAPE} 1\n",
-        "a.session": f"{SESSION_BEGIN}{ESCAPE}\n", f"a{ESCAPE}.session": stored.text.decode(),
+        "a.session": f"{EMPTY_DECK}{SESSION_BEGIN}{ESCAPE}\n", f"a{ESCAPE}.session": stored.text.decode(),
     }
     for name, text in texts.items():
         (folder / name).write_text(text, encoding="ascii")
@@ -308,5 +291,5 @@ def main():
                   for kind in (PROCESS, THREAD)]
         works += [lambda it=it: faults_of_memory(it, Path(room), program) for it in tools(room)]
         works += [lambda: faults_of_endless(Path(room), program)]
-        works += [lambda: faults_of_long_sessions(Path(room)), lambda: faults_of_escapes(Path(room))]
+        works += [lambda: faults_of_long_sessions(Path(room), Program()), lambda: faults_of_escapes(Path(room))]
         return tell([fault for work in works for fault in faults_found(work)])

@@ -16,9 +16,9 @@ import sys
 from pathlib import Path
 
 from cdc6600.drawing.following import Fault, Following, Session, text_of
-from cdc6600.drawing.judging import states_of
 from cdc6600.drawing.listing import listing_of
-from cdc6600.drawing.values import all_values, value_lines
+from cdc6600.drawing.retracing import retraced
+from cdc6600.drawing.values import value_lines
 from cdc6600.shared.decks import session
 from cdc6600.shared.ending import Parser, ended, printable
 from cdc6600.shared.program import Program
@@ -54,16 +54,16 @@ def session_of(name):
     return Session(name, text_of(name))
 
 
-def source_lines(following, file):
+def source_lines(following, states, file):
     """The line of the source program for each event of a session: that of an issue, and else nothing."""
-    listing, logs = listing_of(file, following.session), ["none", *following.logs]
+    listing = listing_of(file, following.session)
     is_made = [event == "issue" and not following.is_refused(n) for n, event in enumerate(following.session.events)]
-    return [listing.next_text(following.replays, log) if made else "" for made, log in zip(is_made, logs)]
+    return [listing.next_text(state) if made else "" for made, state in zip(is_made, states)]
 
 
-def blocks_of_values(following):
+def blocks_of_values(states):
     """The lines of the values after each event of a session, a block for each."""
-    values = all_values(following, states_of(following))
+    values = [state.values for state in states]
     return ["".join(f"  {line}\n" for line in value_lines(*pair)) for pair in zip(values[1:], values)]
 
 
@@ -73,10 +73,12 @@ def work():
     it = session_of(given.name)
     following = Following(program, it, None, None)
     following.check_schedule()
+    states = []
     if given.values or given.source:
         following.follow()
-    blocks = blocks_of_values(following) if given.values else []
-    sources = source_lines(following, given.source) if given.source else []
+        states = retraced(following).states
+    blocks = blocks_of_values(states) if given.values else []
+    sources = source_lines(following, states, given.source) if given.source else []
     ran = program.run(["events"], it.text.encode("latin-1"))
     schedule = it.text.removesuffix("\n").split("\n")[it.deck_end :]
     lines = itertools.zip_longest(schedule, ran.printed.decode().splitlines(), sources, blocks, fillvalue="")

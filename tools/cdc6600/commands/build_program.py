@@ -6,6 +6,9 @@ writes the executable to FILE, or to crates/operator_main/out/operator_main. Wha
 FILE.sources: the checksum of tools/source-sum. If that is the same now, nothing is built. If another call builds the
 same FILE, this one waits for it.
 
+The libraries of the crates below are kept in crates/operator_main/out/libraries, so that tools/build-library doesn't
+prove these crates again.
+
 A crate is proved over what the crates below it state, as soon as those are proved. `rt ci`, which the gate runs, does
 the same, but it shares the processors among the crates that are ready when a check begins. So the long chain of crates
 that stand on one another often has a single one. Here the crates of the chain use all processors; the others use one
@@ -24,15 +27,15 @@ import time
 from pathlib import Path
 
 from cdc6600.building import unproved
-from cdc6600.building.building import PROGRAM, Building, Unproved, ended, locked, put, tell
+from cdc6600.building.building import PROGRAM, SOURCE_SUM, Building, Unproved, ended, locked, put, source_sum, tell
 from cdc6600.building.forecast import MEASURED, MORE
+from cdc6600.building.library import keep_libraries
 from cdc6600.building.processes import run
 from cdc6600.crates.kit import checker
 from cdc6600.crates.table import Table
 from cdc6600.shared.program import ROOT
 
 TARGET, UNPROVED = "x86_64-unknown-linux-gnu", ".unproved"
-SOURCE_SUM = ROOT / "tools/source-sum"
 WEIGHTS_HEAD = """\
 # The seconds of a processor that each crate took, as tools/build-program --weights writes them. A crate without a line
 # here is judged by its lines of code.
@@ -49,12 +52,6 @@ def linked(building, file):
     return file
 
 
-def source_sum(root, *words):
-    """How tools/source-sum ends for a repository: its status, and what it prints."""
-    ran = subprocess.run([SOURCE_SUM, *words, root], stdout=subprocess.PIPE, check=False)
-    return ran.returncode, ran.stdout
-
-
 def write_weights(building):
     """Writes the seconds of a processor that each crate took, or would have taken in one process."""
     took = {name: seconds / (MORE if building.jobs(name) > 1 else 1) for name, seconds in building.seconds.items()}
@@ -62,8 +59,8 @@ def write_weights(building):
     (building.table.root / MEASURED).write_text("".join([WEIGHTS_HEAD, *rows]), encoding="utf-8")
 
 
-def made(given, root, room):
-    """Builds the executable in a folder; its file."""
+def made(given, root, room, sources):
+    """Builds the executable of these sources in a folder; its file."""
     table = Table(root)
     if given.unproved:
         tell("building the program without its proof, which takes one or two minutes")
@@ -72,7 +69,9 @@ def made(given, root, room):
     building.prove_all()
     if given.weights:
         write_weights(building)
-    return linked(building, room / "linked")
+    file = linked(building, room / "linked")
+    keep_libraries(building, sources)
+    return file
 
 
 def arguments():
@@ -93,7 +92,8 @@ def work():
     sources = file.with_name(f"{file.name}.sources")
 
     def is_built():
-        return file.is_file() and not given.weights and source_sum(root, "--of", sources.absolute())[0] == 0
+        words = [SOURCE_SUM, "--of", sources.absolute(), root]
+        return file.is_file() and not given.weights and not subprocess.run(words, check=False).returncode
 
     # Many calls at once that have nothing to build needn't wait for each other.
     if is_built():
@@ -101,8 +101,8 @@ def work():
     with locked(file), tempfile.TemporaryDirectory(prefix="cdc6600-") as room:
         if is_built():
             return 0
-        begun, (_, text) = time.time(), source_sum(root)
-        it = made(given, root, Path(room))
+        begun, text = time.time(), source_sum(root)
+        it = made(given, root, Path(room), text)
         # Without this file the executable doesn't count, so it is never taken for that of other sources.
         sources.unlink(missing_ok=True)
         put(it, file, begun)

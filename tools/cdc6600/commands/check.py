@@ -4,9 +4,9 @@
     tools/check NAME ARGUMENT..      a check with arguments of its own
     tools/check NAME --help          prints what a check does
 
-docs/work/CHANGING.md has a table of the checks, with what each one checks and when to run it. A check that finds
-nothing prints nothing. Its faults are printed, a line or a few lines for each. CDC6600 may name the program to try;
-otherwise it is the one that tools/build-program builds.
+docs/work/checks.md describes each check, and says when to run it. A check that finds nothing prints nothing. Its faults
+are printed, a line or a few lines for each. CDC6600 may name the program to try; otherwise it is the one that
+tools/build-program builds. CDC6600_LIBRARY may name the folder with the library that the tools ask.
 
 Exit status:
   0    the checks find nothing
@@ -15,6 +15,7 @@ Exit status:
 """
 
 import ast
+import os
 import signal
 import subprocess
 import sys
@@ -23,7 +24,8 @@ from importlib import import_module
 from importlib.util import find_spec
 from pathlib import Path
 
-from cdc6600.gate.parts import NAMES, called, command, module
+from cdc6600.asking.library import KEPT, library_path
+from cdc6600.gate.parts import ASKING, NAMES, called, command, module
 from cdc6600.shared.ending import shown
 from cdc6600.shared.program import ROOT
 
@@ -46,6 +48,9 @@ def run_one(name, words):
     so would the commands that some checks interrupt."""
     signal.signal(signal.SIGINT, signal.default_int_handler)
     sys.argv = [called(name), *words]
+    if name in ASKING and library_path() == KEPT:
+        # So none of the tools that the check calls has to look at the sources.
+        os.environ["CDC6600_LIBRARY"] = str(KEPT.parent)
     return import_module(module(name)).main()
 
 

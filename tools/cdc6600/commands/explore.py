@@ -3,7 +3,7 @@ with, and how many minor cycles the shortest and the longest schedule take.
 
 The events are those of a program's normal course: the exchange with the package of the deck's start line, issue, read,
 finish, store, accept, return and bank. The deck's `ask` lines aren't used. A schedule ends where no event is accepted
-any more. Which events are accepted is judged by the rules in Python. Then the machine makes these events in sessions
+any more. A machine of the library for C says which events are accepted. Then the program makes these events in sessions
 of `cdc6600 events`, and has to refuse all others. A loop has many states: --budget 12 looks at its first twelve
 instructions. At a terminal the number of states so far is shown.
 

@@ -2,6 +2,7 @@
 
     PREFIX/bin/cdc6600                  the proved executable
     PREFIX/bin/cdc6600-NAME             each tool, as cdc6600-timeline
+    PREFIX/lib/cdc6600/libcdc6600.so    the shared library, which the tools ask
     PREFIX/lib/libcdc6600.a             the library, PREFIX/include/cdc6600.h its header, and
     PREFIX/lib/pkgconfig/cdc6600.pc     what pkg-config says of it
     PREFIX/share/man/man1/cdc6600.1     the manual page
@@ -19,10 +20,10 @@ the library, which takes some ten minutes. Each file is written beside its place
 of one. What an earlier call has installed and this one doesn't is removed. With --uninstall all that the list names is
 removed, with the folders that were made for it and are empty then.
 
-With --tar all of this except the library and the completions goes into an archive, packed by gzip, for people without
-the toolchain. It has one folder cdc6600, which works wherever it is unpacked; START.txt there says how to begin. The
-program needs Linux on x86-64 with glibc 2.34 or later, the tools need Python 3.10 or later too, and the page in a
-browser needs neither. The same files give the same bytes. FILE is written over only if it is such an archive.
+With --tar all of this except the library for C and the completions goes into an archive, packed by gzip, for people
+without the toolchain. It has one folder cdc6600, which works wherever it is unpacked; START.txt there says how to
+begin. The program needs Linux on x86-64 with glibc 2.34 or later, the tools need Python 3.10 or later too, and the page
+in a browser needs neither. The same files give the same bytes. FILE is written over only if it is such an archive.
 
 Three variables of the environment are read: CDC6600 may name the executable to install, CDC6600_LIBRARY the folder with
 the library, and what DESTDIR has stands before PREFIX wherever something is written or removed.
@@ -33,8 +34,10 @@ import os
 import re
 import subprocess
 import sys
+from functools import cache
 from pathlib import Path
 
+from cdc6600.building.library import ARCHIVE, SHARED
 from cdc6600.installing.archive import archive, is_archive
 from cdc6600.installing.completions import FILES, SHELLS
 from cdc6600.installing.installation import Fault, Installation, Piece
@@ -47,6 +50,8 @@ LIST = f"{DOCUMENTS}/installed"
 # The page that drives a machine in a browser, from the repository's folder on.
 TRIED = "docs/try/cdc6600.html"
 EMBEDDING = ROOT / "crates/embedding"
+# Where the tools look for the shared library. In PREFIX/lib a linker would take it instead of the archive.
+OF_TOOLS = f"lib/cdc6600/{SHARED}"
 
 # What the tools read, by its names from the repository's folder on.
 READ_BY_TOOLS = (
@@ -60,6 +65,7 @@ READ_BY_TOOLS = (
 PAGES = (
     *READ_BY_TOOLS,
     "README.md",
+    "CHANGELOG.md",
     "decks/exercises/*.*",
     "decks/source/*.*",
     "docs/*.md",
@@ -78,8 +84,8 @@ TOOLS = (
 )
 # The parts of the package that these tools use, besides their own modules in `commands`.
 PACKAGES = (
-    ".", "assembling", "comparing", "drawing", "installing", "many_jobs", "operating", "random_decks", "shared",
-    "timing",
+    ".", "asking", "assembling", "comparing", "drawing", "installing", "many_jobs", "operating", "random_decks",
+    "shared", "timing",
 )
 # What isn't installed with `--without` and its name, and what an archive never has: files for fixed folders.
 PARTS = ("completions", "library", "pages", "program", "tools")
@@ -123,6 +129,7 @@ def executable():
     return Path(program.path).read_bytes()
 
 
+@cache
 def library():
     """The folder of the library that CDC6600_LIBRARY names, or of the one that tools/build-library builds."""
     named = os.environ.get("CDC6600_LIBRARY")
@@ -140,7 +147,7 @@ def library_pieces(prefix):
         raise Fault(f"{folder / 'cdc6600.h'}: it has no version")
     page = (EMBEDDING / "cdc6600.pc.in").read_text(encoding="utf-8")
     page = page.replace("@PREFIX@", re.sub(r"([ \\#$])", r"\\\1", str(prefix))).replace("@VERSION@", version[1])
-    yield Piece("lib/libcdc6600.a", (folder / "libcdc6600.a").read_bytes())
+    yield Piece(f"lib/{ARCHIVE}", (folder / ARCHIVE).read_bytes())
     yield Piece("include/cdc6600.h", header.encode())
     yield Piece("lib/pkgconfig/cdc6600.pc", page.encode())
     yield from documents("crates/embedding/examples/*.*", "crates/embedding/javascript/*.*")
@@ -155,11 +162,12 @@ def documents(*patterns):
 
 
 def tool_pieces():
-    """The tools beside what they read, and a command for each."""
+    """The tools beside what they read, a command for each, and the library that they ask, with its declarations."""
     modules = ("__init__", *(name.replace("-", "_") for name in TOOLS))
     yield from documents(*(f"tools/{name}" for name in TOOLS), *(f"tools/cdc6600/{name}/*.*" for name in PACKAGES))
     yield from documents(*(f"tools/cdc6600/commands/{name}.py" for name in modules))
-    yield from documents(*READ_BY_TOOLS)
+    yield from documents(*READ_BY_TOOLS, "crates/embedding/examples/cdc6600.py")
+    yield Piece(OF_TOOLS, (library() / SHARED).read_bytes())
     for name in TOOLS:
         yield Piece(f"bin/cdc6600-{name}", (LAUNCHER % (DOCUMENTS, name)).encode(), 0o755)
 

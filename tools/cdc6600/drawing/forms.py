@@ -6,7 +6,7 @@ from bisect import bisect_left
 from collections import defaultdict
 
 from .following import IN_CHANNEL, IN_HOPPER, LETTER, RESERVED, Fault
-from .instructions import UNITS
+from .units import UNITS
 
 SVG, SPACE = "http://www.w3.org/2000/svg", "{http://www.w3.org/XML/1998/namespace}space"
 COLOURS = {RESERVED: "#cfe0f5", IN_HOPPER: "#f7dfa5", IN_CHANNEL: "#cdebc8"}

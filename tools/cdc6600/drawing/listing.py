@@ -1,12 +1,12 @@
 """The listing of the source program from which a deck is, and the line of an instruction."""
 
+from cdc6600.asking.states import RUNNING
 from cdc6600.assembling.output import numbered_listing
 from cdc6600.assembling.sources import ENDING, read_source
 from cdc6600.shared.ending import printable
 from cdc6600.shared.reading import read_file
 
 from .following import Fault, Session, text_of
-from .states import RUNNING
 
 MARK = ">"
 
@@ -19,24 +19,24 @@ class Listing:
         if str(file).endswith(ENDING):
             self.program, self.settings = read_source(file, read_file(file))
 
-    def lines(self, replays, log):
-        """The lines after a log, that of the next instruction with a mark."""
+    def lines(self, state):
+        """The lines in a state, that of the next instruction with a mark."""
         if not self.program:
             return ["The deck is from no source program."]
-        at = self.next_line(replays, log)
+        at = self.next_line(state)
         listing = numbered_listing(self.program)
         return [printable(f"{MARK if number == at else ' '} {line}".expandtabs()) for number, line in listing]
 
-    def next_line(self, replays, log):
+    def next_line(self, state):
         """The number of the next instruction's line; none where the machine is halted, or has another program."""
-        if replays.halt(log) != RUNNING or replays.number(log, 2, 1) != self.settings.reference:
+        if state.halt != RUNNING or state.now.ra != self.settings.reference:
             return None
-        return self.program.line_at(replays.number(log, 0, 1), replays.number(log, 0, 3))
+        return self.program.line_at(state.now.p, state.now.parcel)
 
-    def next_text(self, replays, log):
-        """The line of the next instruction after a log, with its number; nothing if it is in no line, as a pass that
+    def next_text(self, state):
+        """The line of the next instruction in a state, with its number; nothing if it is in no line, as a pass that
         fills a word."""
-        at = self.next_line(replays, log) if self.program else None
+        at = self.next_line(state) if self.program else None
         return f"line {at}: {printable(' '.join(self.program.texts[at - 1].split()))}" if at else ""
 
 

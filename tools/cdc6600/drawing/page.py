@@ -12,18 +12,18 @@ import xml.etree.ElementTree as ET
 from pathlib import Path
 from string import Template
 
+from cdc6600.shared.telling import sentence
 from cdc6600.timing.reservations import rows_of
 from cdc6600.timing.totals import Totals
 from cdc6600.timing.waits import Account
 
 from .following import ENDS, IN_CHANNEL, IN_HOPPER, LETTER, RESERVED
 from .forms import COLOURS, EVENTS, KINDS, REFUSED, SVG, Form, UnitForm, picture_of
-from .judging import states_of
-from .panel import ROOM, Panel, holding
+from .panel import ROOM, Panel
 from .pictures import HELD, pieces, units
+from .retracing import retraced
 from .tables import card, reservations, totals
-from cdc6600.shared.telling import sentence
-from .values import REGISTERS, all_values, changes, number_of
+from .values import REGISTERS, changes, number_of
 from .words import Words
 
 FOLDER = Path(__file__).resolve().parent
@@ -44,12 +44,11 @@ class Page:
 
     def __init__(self, following, title, description="", links="", times=None):
         self.following, self.title, self.description, self.links = following, title, description, links
-        self.states, self.account = states_of(following), Account(following, times) if times else None
+        self.retracing, self.account = retraced(following), Account(following, times) if times else None
         cycles = self.account.cycles if times else None
         self.form, self.unit_form = Form(following, cycles), UnitForm(following, cycles)
         self.form.check_columns()
-        self.words = Words(following, self.states)
-        self.values = all_values(following, self.states)
+        self.words, self.values = Words(self.retracing), [state.values for state in self.retracing.states]
 
     def steps(self):
         """What each step shows, an event for each."""
@@ -59,8 +58,9 @@ class Page:
         """What is shown of an event: its line, its answer, the same in words, the panel after it, the values that it
         has changed, and how far down in the picture the row stands that is in sight."""
         event, is_refused = self.following.session.events[n], self.following.is_refused(n)
-        holds = holding(self.words.judge(n), event) if is_refused else []
-        parts = Panel(self.words.judge(n + 1)).parts()
+        refusal = self.retracing.refusals.get(n)
+        holds = [str(row) for row in refusal.rows] if refusal else []
+        parts = Panel(self.retracing.view(n + 1)).parts()
         return {"event": event, "answer": self.answer(n), "words": self.words.said(n), "refused": is_refused,
                 "holds": holds, "values": changes(self.values[n + 1], self.values[n]), "line": line, **parts}
 
@@ -115,7 +115,7 @@ class Page:
         form, values = self.form, changes(self.values[0], {})
         columns = {"left": form.left, "column": form.column, "columns": form.column_of, "width": form.width}
         below = {"head": self.head_height(), "below": list(self.below())}
-        return {"steps": steps, "values": values, "boot": Panel(self.words.judge(0)).parts(), **columns, **below,
+        return {"steps": steps, "values": values, "boot": Panel(self.retracing.view(0)).parts(), **columns, **below,
                 "cycles": self.account and self.account.cycles}
 
     def below(self):

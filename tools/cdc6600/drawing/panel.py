@@ -4,20 +4,18 @@ A row of the panel is a few texts. There is one for each unit, place, channel, b
 are for the machine itself.
 """
 
+from cdc6600.asking.states import CHANNELS, OUT_OF_RANGE, PLACES, RUNNING, part_of
 from cdc6600.limits import BANKS
 
-from .following import PLACES
-from .instructions import NAMES, UNITS
 from .sentences import said
-from .states import CHANNELS, RUNNING
-from .values import text_now
+from .units import NAMES
 
 
 class Panel:
-    """The rows of the panel for a state, which a judge has with the log up to it."""
+    """The rows of the panel for a view of a session."""
 
-    def __init__(self, judge):
-        self.judge, self.state, self.rows = judge, judge.state, judge.rows
+    def __init__(self, view):
+        self.state, self.rows, self.log = view.state, view.rows, view.log
 
     def parts(self):
         """All rows by their parts: what has nothing is left out, but for the machine itself."""
@@ -33,7 +31,7 @@ class Panel:
     def machine(self):
         """How the machine itself is: whether it runs, what is issued next, whether an exchange is asked for."""
         asked = said("panel exchange", package=self.state.asked)
-        return {"Machine": self.condition(), "Next": self.next(), "Exchange": asked, "Log": self.judge.log}
+        return {"Machine": self.condition(), "Next": self.next(), "Exchange": asked, "Log": self.log}
 
     def condition(self):
         """Whether it runs."""
@@ -42,14 +40,13 @@ class Panel:
 
     def next(self):
         """The next instruction, where that can be said."""
-        if self.state.halt != RUNNING:
+        state, (address, parcel) = self.state, self.state.position
+        if state.halt != RUNNING:
             return said("panel none")
-        if "branch" in self.state.units:
+        if "branch" in state.units:
             return said("panel branch")
-        judge = self.judge
-        parcel = judge.replays.field(judge.log, 0, 3) if judge.is_held else ""
-        return said("panel next", text=text_now(judge), address=f"{judge.replays.number(judge.log, 0, 1):o}",
-                    parcel=parcel)
+        text = "" if state.next == OUT_OF_RANGE else state.next
+        return said("panel next", text=text, address=address, parcel=parcel if state.now.has_held else "")
 
     def units(self):
         """The units that are reserved, each with how far its reservation is."""
@@ -58,24 +55,24 @@ class Panel:
     def phase(self, row):
         """How far a reservation is, and which operands it waits for."""
         phase = self.state.phases[row]
-        awaited = self.judge.awaited(row) if phase == "issued" else []
-        waits = [said("awaits", register=register, producer=str(producer)) for register, producer in awaited]
+        waits = [said("awaits", register=register, producer=str(producer))
+                 for register, producer in self.state.awaited(row)]
         return said("panel phase", phase=phase, awaited=waits)
 
     def places(self):
         """The places of the hopper that are taken, each with the word that is referred to."""
         found = {}
         for place, row in sorted(self.state.places.items()):
-            address = self.rows[row].address
+            address = self.state.addresses[row]
             word = said("panel word", address=f"{address:o}", bank=str(address % BANKS))  # E13
             found[str(place)] = self.labelled(row, word)
         return found
 
     def channels(self):
         """The load channels that a load has."""
-        found, at = {}, {row: place for place, row in self.state.places.items()}
+        found = {}
         for channel, row in sorted(self.state.channels.items()):
-            place = "" if row in self.state.loaded else str(at[row])
+            place = "" if row in self.state.loaded else str(part_of(self.state.places, row))
             found[str(channel)] = self.labelled(row, said("panel load", place=place))
         return found
 
@@ -94,14 +91,8 @@ class Panel:
 
 # The rows that a panel has room for, with their labels.
 ROOM = {
-    "units": {unit: NAMES[unit] for unit in UNITS},
-    "places": {str(place): f"Place {place}" for place in range(PLACES)},
+    "units": NAMES,
+    "places": {str(place): f"Place {place}" for place in PLACES},
     "channels": {str(channel): f"Channel {channel}" for channel in CHANNELS},
     "banks": {str(bank): str(bank) for bank in range(BANKS)},
 }
-
-
-def holding(judge, event):
-    """The numbers of the reservations that hold an event back, as texts."""
-    refusal = judge.refusal(event)
-    return [str(row) for row in refusal.rows] if refusal else []

@@ -2,11 +2,11 @@
 
 import html
 
+from cdc6600.shared.telling import sentence
 from cdc6600.timing.reservations import BY_CYCLE, BY_EVENT, HEADS
 from cdc6600.timing.waits import CAUSES
 
-from .instructions import NAMES
-from cdc6600.shared.telling import sentence
+from .units import NAMES
 
 # The rows of totals, and the heads of their waits.
 COUNTS = {

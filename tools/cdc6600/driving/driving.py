@@ -13,23 +13,24 @@ from pathlib import Path
 from string import Template
 
 from cdc6600 import limits
+from cdc6600.asking.states import CHANNELS, PLACES
 from cdc6600.assembling.language import LANGUAGE
 from cdc6600.assembling.texts import FORMS
 from cdc6600.drawing import page as drawing
-from cdc6600.drawing.following import PLACES, WORDS
-from cdc6600.drawing.instructions import NAMES
+from cdc6600.drawing.following import WORDS
 from cdc6600.drawing.sentences import SENTENCES
-from cdc6600.drawing.states import CHANNELS
+from cdc6600.drawing.units import NAMES
 from cdc6600.drawing.values import REGISTERS
 from cdc6600.shared.decks import FOLDER as DECKS
 from cdc6600.shared.decks import cells_of, decks, sessions, shown_by_sessions
 from cdc6600.shared.instructions import ROWS
 from cdc6600.shared.program import ROOT
 from cdc6600.timing.reservations import HEADS
+from cdc6600.timing.times import read_times
 
 NAME = "cdc6600.html"
 FOLDER, WRAPPER = Path(__file__).resolve().parent, ROOT / "crates/embedding/javascript/cdc6600.mjs"
-SCRIPTS = ("sentences", "asking", "replays", "words", "driven", "timeline", "assembler", "page")
+SCRIPTS = ("sentences", "asking", "words", "moments", "cycles", "driven", "timeline", "assembler", "page")
 EXPORTED = re.compile(r"^export (\{.*\};)?", re.MULTILINE)
 # The example that is chosen first.
 FIRST = "two-adds-code"
@@ -94,9 +95,9 @@ def given():
     """What the scripts read."""
     sizes = {"least": limits.LEAST_WORDS, "words": limits.MOST_WORDS, "package": limits.PACKAGE_WORDS,
              "shows": limits.MOST_SHOWS, "shown": WORDS}
-    numbers = {"accept": range(PLACES), "return": CHANNELS, "bank": range(limits.BANKS)}
+    numbers = {"accept": PLACES, "return": CHANNELS, "bank": range(limits.BANKS)}
     return {"sentences": SENTENCES, "names": NAMES, "instructions": instructions(), "forms": forms(),
-            "language": LANGUAGE, "limits": sizes, "examples": examples(),
+            "language": LANGUAGE, "limits": sizes, "times": read_times().cycles, "examples": examples(),
             "numbers": {kind: list(numbers[kind]) for kind in numbers}}
 
 

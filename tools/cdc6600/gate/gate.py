@@ -51,6 +51,8 @@ RUNNER = "tools/wrong-bodies"
 ALL = "docs/proof/all-wrong-bodies.txt"
 # What `rt ci` builds.
 PROGRAM = "crates/operator_main/out/operator_main"
+# Where the tools and the checks look for the library.
+LIBRARY = "crates/embedding/out"
 PROOFS = re.compile(r"(\d+) passed, (\d+) failed")
 TRIED = re.compile(r"(\d+) wrong bodies, (\d+) not refused, (\d+) can't tell")
 PIPED = {"stdout": subprocess.PIPE, "stderr": subprocess.STDOUT, "text": True, "errors": "replace"}
@@ -143,12 +145,22 @@ def proofs(is_anew):
     return passed, failed
 
 
+def library():
+    """Builds the library, which `rt ci` doesn't: the tools ask it, and each would build it first and say so. How many
+    builds passed and failed."""
+    ran = subprocess.run(["tools/build-library", LIBRARY], **PIPED, check=False)
+    if ran.returncode:
+        print(ran.stdout, end="", flush=True)
+    return (0, 1) if ran.returncode else (1, 0)
+
+
 def bodies(gate, asked):
-    """The wrong bodies, and beside them the runner's own tests: how many were refused, and how many weren't."""
-    with ThreadPoolExecutor(1) as pool:
-        own = pool.submit(silent, [BODIES])
+    """The wrong bodies, and beside them the runner's own tests and the library: how many were refused, and how many
+    weren't."""
+    with ThreadPoolExecutor(2) as pool:
+        others = [pool.submit(silent, [BODIES]), pool.submit(library)]
         tried, let_through, gate.unsure = counted([RUNNER, "--after-rt-ci", "--once", *sorted(asked)], TRIED)
-        passed, failed = own.result()
+        passed, failed = (sum(numbers) for numbers in zip(*(it.result() for it in others)))
     if "--all" in asked and not failed + let_through:
         note_all(f"{tried} wrong bodies, {let_through} not refused, {gate.unsure} can't tell")
     print(age_of_all(), flush=True)

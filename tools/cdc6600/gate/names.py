@@ -7,7 +7,7 @@
 - Beginnings: the comment that begins a crate names the file of the crate's tests, and ends with a sentence that says
   where to begin: `Begin with ..`. A crate of tests only says where to begin.
 - Calls: a table of calls, whose head begins with `Call`, names public calls of the crates that its page names above it.
-  the page of the calls is generated.
+  The page of all public calls is generated instead.
 - Paths: a path that begins with a folder of the repository is a file or a folder there, in the files of crates and in
   pages. In the tools' sources this holds for tools and pages, since tests name decks and crates that they make. NAME
   stands for any name, and so does the crate in `crates/crate/`; `*` has to match something.
@@ -162,7 +162,7 @@ def faults_of_calls(page, lines):
                     yield f"{page}:{number}: no crate named above has a call `{call}`"
         else:
             for crate in (CRATES[name] for name in QUOTED.findall(line) if name in CRATES):
-                calls.update(name for label in crate.public_calls for name in (label, label.rpartition("::")[2]))
+                calls.update(name for it in crate.public_calls for name in (it.label, it.name))
 
 
 # ---- paths and links ----

@@ -1,8 +1,8 @@
 """The checks by their names, in the parts of the gate. `tools/check NAME` runs one."""
 
 # They look at sources and pages alone, and take seconds.
-SMALL = ("definitions", "generated", "examples", "sizes", "limits", "words", "names", "layout", "edits", "style",
-         "where-test")
+SMALL = ("definitions", "generated", "examples", "sizes", "limits", "words", "names", "layout", "readings",
+         "edits", "style", "where-test")
 # They try the tools that prove and that try wrong bodies, on small workspaces.
 BODIES = "wrong-bodies-test"
 BUILDING = ("spent-tokens", "build-program-test")
@@ -12,6 +12,11 @@ DECKS = (
     "mutations", "failures", "allocations", "emulators", "trace", "random-sessions", "values", "operate", "scheduling",
     "exploring", "cycles", "browser", "driving", "progress", "habits", "launcher", "archive", "many-jobs",
     "tool-failures", "embedding", "module", "built-files",
+)
+# Those of them whose tools ask the library, which is made before.
+ASKING = (
+    "decks", "pages", "assembler", "random-sessions", "values", "operate", "scheduling", "exploring", "cycles",
+    "browser", "driving", "habits", "archive", "tool-failures",
 )
 NAMES = (*SMALL, BODIES, *DECKS, *BUILDING)
 # Those whose modules are in the folder of the gate.

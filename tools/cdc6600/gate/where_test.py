@@ -56,7 +56,7 @@ class Tool(unittest.TestCase):
             "code": "Err(Refusal::OlderAtAddress)", "proof": "hopper/proofs/hopper/Hopper/acceptable/Answers.antt:1:",
             "wrong body": "hopper/wrong-bodies/load_before_an_older_store.edit",
             "test": "core_tests/src/hopper_tests.rt", "deck": "decks/sessions/one-word.answers",
-            "tool": "drawing/judging.py", "page": "docs/proof/calls.md",
+            "tool": "checks/judging_by_rules.py", "page": "docs/proof/calls.md",
         }.items():
             self.assertTrue(any(text in line for line in found[heading]), (heading, text))
 

@@ -2,10 +2,9 @@
 
 import textwrap
 
-from cdc6600.drawing.following import PLACES
-from cdc6600.drawing.instructions import NAMES, UNITS
+from cdc6600.asking.states import CHANNELS, PLACES
 from cdc6600.drawing.panel import Panel
-from cdc6600.drawing.states import CHANNELS
+from cdc6600.drawing.units import NAMES, UNITS
 from cdc6600.limits import BANKS
 
 WIDTH = 80
@@ -13,15 +12,15 @@ WIDTH = 80
 LEFT = 39
 
 
-def board(judge):
+def board(view):
     """The lines that show a state, of at most 80 characters: ten with the parts side by side, and those below."""
-    state, rows = judge.state, judge.rows
+    state, rows = view.state, view.rows
     left = [unit_line(state, rows, unit) for unit in UNITS]
-    right = [place_line(state, rows, place) for place in range(PLACES)]
+    right = [place_line(state, rows, place) for place in PLACES]
     right += [channel_line(state, rows, channel) for channel in CHANNELS]
     right += [""] * (len(left) - len(right))
     beside = [f"{one:<{LEFT}}{other}".rstrip(" ")[:WIDTH] for one, other in zip(left, right)]
-    return [*beside, *about_machine(judge)]
+    return [*beside, *about_machine(view)]
 
 
 def unit_line(state, rows, unit):
@@ -33,7 +32,7 @@ def unit_line(state, rows, unit):
 def place_line(state, rows, place):
     """The line of a place of the hopper."""
     row = state.places.get(place)
-    address = rows[row].address if row else 0
+    address = state.addresses.get(row, 0)
     return line_of(f"Place {place}  ", rows, row, f"{address:o} bank {address % BANKS}")  # E13
 
 
@@ -48,9 +47,9 @@ def line_of(label, rows, row, more):
     return f"{label}{row:>3} {rows[row].text:<13} {more}" if row else f"{label}  -"
 
 
-def about_machine(judge):
+def about_machine(view):
     """The lines of the machine itself, of its busy banks and of its reserved registers, by reservation."""
-    parts, state = Panel(judge).machine(), judge.state
+    parts, state = Panel(view).machine(), view.state
     return [
         f"Machine: {parts['Machine']}. Exchange: {parts['Exchange']}."[:WIDTH], f"Next: {parts['Next']}"[:WIDTH],
         *wrapped(f"Busy banks: {by_reservation(state.banks)}"),

@@ -1,7 +1,7 @@
 """What is typed to drive a machine: events, and commands."""
 
 from cdc6600.drawing.following import EVENT, Fault
-from cdc6600.drawing.instructions import NAMES, UNITS
+from cdc6600.drawing.units import NAMES, UNITS
 from cdc6600.shared.ending import printable
 
 from .phrases import near
@@ -76,7 +76,7 @@ class Commands:
             return OVER
         event = self.operation.next_event()
         if event is None:
-            return f"Nothing is pending, and issue is refused: {self.operation.judge.refusal('issue').answer}."
+            return f"Nothing is pending, and issue is refused: {self.operation.judge('issue').answer}."
         return self.make(event)
 
     def repeat(self, word, count):
@@ -90,7 +90,7 @@ class Commands:
     def until(self, what):
         """Makes next events until a value has changed, or issues until an issue would be refused."""
         if what == "refused":
-            return self.go_on(lambda _: self.operation.judge.refusal("issue"), issues=True)
+            return self.go_on(lambda _: self.operation.judge("issue"), issues=True)
         name, before = self.operation.name_of(what), self.operation.values()
         if name not in before:
             return "Say until when: until X6, until refused, or until 110 for a word that the deck shows."
@@ -116,7 +116,7 @@ class Commands:
             return OVER
         made, event, refusal = 0, self.operation.step_of(unit), None
         while event and not refusal:
-            refusal = self.operation.judge.refusal(event)
+            refusal = self.operation.judge(event)
             if not refusal:
                 self.operation.make(event)
                 made, event = made + 1, self.operation.step_of(unit)

@@ -5,21 +5,18 @@ import re
 from dataclasses import dataclass
 from pathlib import Path
 
-from cdc6600.drawing.following import ENDS, EVENT, Fault, Following, Session
+from cdc6600.asking.states import OUT_OF_RANGE, RUNNING, Refusal
+from cdc6600.drawing.following import ENDS, EVENT, Fault, Following, Session, plain
 from cdc6600.drawing.listing import Listing
-from cdc6600.drawing.judging import Judge, Refusal
+from cdc6600.drawing.retracing import Retracing
 from cdc6600.drawing.sentences import reservation, said
-from cdc6600.drawing.states import RUNNING, State
-from cdc6600.shared.telling import plural
-from cdc6600.drawing.values import value_lines, values_of
+from cdc6600.drawing.values import value_lines
 from cdc6600.drawing.words import Words
 from cdc6600.shared.ending import printable
+from cdc6600.shared.telling import plural
 from cdc6600.shared.writing import put, why_not_written
 
 from .conversation import Conversation
-
-# What a reservation does next in its unit, by its phase.
-NEXT = {"issued": "read", "read": "finish", "finished": "store"}
 
 
 @dataclass(frozen=True)
@@ -60,7 +57,7 @@ class Operation:
         """Begins anew, and makes these events."""
         self.close()
         self.following = Following(self.program, Session(self.file, self.deck), None, "")
-        self.states = [State()]
+        self.retracing = Retracing(self.following)
         self.conversation = Conversation(self.program.path, self.deck)
         for event in events:
             if not EVENT.fullmatch(event):
@@ -88,16 +85,25 @@ class Operation:
         return self.events[-1:] != [] and self.events[-1] in ENDS
 
     @property
-    def judge(self):
-        """What an event would be answered now."""
-        return Judge(self.states[-1], self.following, self.following.log.text)
+    def state(self):
+        """What the parts of the machine have now."""
+        return self.retracing.states[-1]
+
+    @property
+    def view(self):
+        """What is shown of the machine now."""
+        return self.retracing.view(len(self.events))
+
+    def judge(self, event):
+        """The refusal of an event now, or none if it would be made. The last line of a schedule is always accepted."""
+        return None if event in ENDS else self.retracing.machine.judge(event)
 
     def make(self, event):
         """Makes an event, or has it refused. Raises Fault where the program gives no answer that fits."""
         is_last = event in ENDS
         answers = self.conversation.ask_last(event) if is_last else [self.conversation.ask(event)]
         self.following.take(event, answers)
-        self.states.append(self.states[-1].after(self.following, len(self.events) - 1))
+        self.retracing.go_on()
 
     def take_back(self, count=1):
         """Takes so many of the last events back; their lines, the last one first."""
@@ -112,7 +118,7 @@ class Operation:
         n = len(self.events) - 1
         is_dump = self.is_over and self.following.answers[n] != "NOT DRAINED"
         answer = "the dump" if is_dump else self.following.answers[n]
-        return f"{self.events[n]} -> {answer}. {Words(self.following, self.states).told(n)}"
+        return f"{self.events[n]} -> {answer}. {Words(self.retracing).told(n)}"
 
     def ending(self):
         """The lines that the program printed at the end."""
@@ -125,11 +131,11 @@ class Operation:
 
     def source_lines(self):
         """The listing of the source program, with a mark before the next instruction."""
-        return self.listing.lines(self.following.replays, self.following.log.text)
+        return self.listing.lines(self.retracing.machine.drained())
 
     def values(self):
         """The values now."""
-        return values_of(self.judge)
+        return self.state.values
 
     @staticmethod
     def name_of(typed):
@@ -138,70 +144,56 @@ class Operation:
 
     def value_lines(self):
         """The values now in lines, those that the last event has changed with a mark."""
-        logs = ["none", *self.following.logs]
-        values = [values_of(Judge(*at)) for at in zip(self.states[-2:], [self.following] * 2, logs[-2:])]
-        return value_lines(values[-1], values[0])
+        return value_lines(self.state.values, self.retracing.states[-2:][0].values)
 
     def next_event(self):
         """The event that a drain would make next: that of the oldest reservation, or the freeing of the bank that it
         waits for. With nothing pending it is the exchange that is asked for, or else an issue; on a machine that was
         just booted the request for the deck's package. None where it would be refused."""
-        judge, state = self.judge, self.states[-1]
+        state = self.state
         if self.following.log.text == "none" and not state.asked:
             return self.first_request
         if not state.pending:
-            return next((event for event in ("exchange", "issue") if not judge.refusal(event)), None)
-        event, _ = next(self.steps(state))
-        refusal = judge.refusal(event)
+            return next((event for event in ("exchange", "issue") if not self.judge(event)), None)
+        event = state.next_of(state.pending[0])
+        refusal = self.judge(event)
         return f"bank {refusal.named}" if refusal and refusal.code == "E13" else event
 
     @property
     def first_request(self):
         """The request for the package of the deck's start line."""
-        return f"ask {self.package[1].lstrip('0') or '0'}"
+        return f"ask {plain(self.package[1])}"
 
     def step_of(self, unit):
         """The event that the reservation of a unit is to make next, or none."""
-        state = self.states[-1]
-        row = state.units.get(unit)
-        return f"{NEXT[state.phases[row]]} {unit}" if row else None
+        row = self.state.units.get(unit)
+        return self.state.next_of(row) if row else None
 
     def offers(self):
         """The events that may be tried, those that are made first, each kind oldest first."""
         if self.is_over:
             return []
-        judge = self.judge
-        offers = [Offer(event, about, judge.refusal(event)) for event, about in self.candidates()]
+        offers = [Offer(event, about, self.judge(event)) for event, about in self.candidates()]
         return sorted(offers, key=lambda offer: offer.refusal is not None)
 
     def candidates(self):
         """Each event that some part of the machine has to do now, with what it is about."""
-        state = self.states[-1]
+        state = self.state
         asked = [("exchange", f"with the package at {state.asked}")] if state.asked else []
         request = [] if state.asked else [(self.first_request, "the package of the deck's start line")]
         halted = request if state.halt != RUNNING else []
         running = [] if halted else request
         ends = [("drain", "carries out all that is pending, and ends"), ("end", "ends the schedule as it is")]
-        issue = [("issue", self.judge.next_text if not halted else "")]
-        return [*asked, *halted, *issue, *self.steps(state), *self.banks(state), *running, *ends]
+        issue = [("issue", self.next_text if not halted else "")]
+        steps = [(state.next_of(row), reservation(self.following.rows, row)) for row in state.pending]
+        banks = [(f"bank {bank}", "is busy") for bank in sorted(state.banks)]
+        return [*asked, *halted, *issue, *steps, *banks, *running, *ends]
 
-    def steps(self, state):
-        """What the pending reservations have to do next."""
-        places = {row: place for place, row in state.places.items()}
-        for row in state.pending:
-            it = self.following.rows[row]
-            about = reservation(self.following.rows, row)
-            if row in state.phases:
-                yield f"{NEXT[state.phases[row]]} {it.unit}", about
-            elif row in places:
-                yield f"accept {places[row]}", about
-            else:
-                yield f"return {it.channel}", about
-
-    @staticmethod
-    def banks(state):
-        """The banks that may be freed."""
-        return [(f"bank {bank}", "is busy") for bank in sorted(state.banks)]
+    @property
+    def next_text(self):
+        """The text of the instruction that is issued next once all that is pending is carried out."""
+        text = self.retracing.machine.drained().next
+        return "" if text == OUT_OF_RANGE else text
 
     def check_target(self, file):
         """Raises Fault where a file is there that this operation hasn't written, or it would stand in no folder."""

@@ -4,15 +4,14 @@ line means."""
 import difflib
 import os
 
-from cdc6600.drawing.following import PLACES
-from cdc6600.drawing.instructions import UNITS
-from cdc6600.drawing.states import CHANNELS
+from cdc6600.asking.states import CHANNELS, PLACES
+from cdc6600.drawing.units import UNITS
 
 COMMANDS = ("?", "help", "next", "past", "quit", "save ", "source", "undo", "until ", "until refused", "values")
 PHRASES = sorted((
     *COMMANDS, "issue", "exchange", "drain", "end", "ask ", "bank ", "ppread ", "ppwrite ",
     *(f"{verb} {unit}" for verb in ("read", "finish", "store", "through") for unit in UNITS),
-    *(f"accept {place}" for place in range(PLACES)), *(f"return {channel}" for channel in CHANNELS),
+    *(f"accept {place}" for place in PLACES), *(f"return {channel}" for channel in CHANNELS),
 ))
 
 

@@ -88,7 +88,7 @@ class Plain:
     def show(self, said):
         """Shows what is said, the machine, and what may be tried."""
         print(f"\n--- {self.operation.progress} ---")
-        print(*board(self.operation.judge), sep="\n")
+        print(*board(self.operation.view), sep="\n")
         print("", *wrapped(said), *self.operation.ending(), "", sep="\n")
         for number, offer in enumerate(self.operation.offers(), 1):
             print(f"{number:>2} {offered(offer)}")

@@ -161,7 +161,7 @@ class Screen:
 
     def pane(self, height):
         """The machine in at most so many lines, or what is shown instead of it."""
-        lines = self.commands.lines() if self.commands.pane else board(self.operation.judge)
+        lines = self.commands.lines() if self.commands.pane else board(self.operation.view)
         if self.commands.pane == SOURCE:
             # The next instruction is in sight.
             at = next((at for at, line in enumerate(lines) if line.startswith(MARK)), 0)

@@ -91,9 +91,9 @@ class Clock:
         self.first = self.now if self.first is None else self.first
         self.issuing.then("issue", self.now, self.times.issue(text))
 
-    def reserve(self, number, unit, text, is_taken, address):
+    def reserve(self, number, unit, text, is_taken, address=None):
         """The instruction that was just issued reserves a unit; its part. A branch is taken or not, and a reference in
-        range has an absolute address."""
+        range has an absolute address, which has to be known at the store event."""
         part = Part(number, "read", self.now, unit, text, address, begun=self.now)
         part.cycles = self.times.unit(unit, is_taken)
         part.channel = channel_of(text)

@@ -2,12 +2,12 @@
 
 from dataclasses import dataclass, field
 
-from cdc6600.drawing.following import PLACES, Fault
-from cdc6600.drawing.instructions import UNITS
-from cdc6600.drawing.states import CHANNELS
+from cdc6600.asking.states import CHANNELS, PLACES
+from cdc6600.drawing.following import Fault
+from cdc6600.drawing.units import UNITS
 
 TRIED = [f"{event} {unit}" for unit in UNITS for event in ("read", "finish", "store")]
-TRIED += [f"accept {place}" for place in range(PLACES)] + [f"return {channel}" for channel in CHANNELS]
+TRIED += [f"accept {place}" for place in PLACES] + [f"return {channel}" for channel in CHANNELS]
 END = "end"
 # In a graph of more states than this no best order is looked for.
 LARGE = 5000
@@ -70,10 +70,10 @@ class Confirmation:
 
     def probes(self, node):
         """The events that are refused in a state, each with its answer."""
-        judge = self.exploration.judge_of(node)
+        machine = self.exploration.machine_at(node)
         banks = [f"bank {bank}" for bank in self.exploration.banks]
         events = dict.fromkeys([*TRIED, *banks, *node.refusals, "exchange"])
-        refusals = [(event, judge.refusal(event)) for event in events if event not in node.edges]
+        refusals = [(event, machine.judge(event)) for event in events if event not in node.edges]
         return [(event, refusal.answer) for event, refusal in refusals if refusal]
 
     def confirm(self, path):
@@ -83,7 +83,7 @@ class Confirmation:
             lines += self.probes(node) if node not in self.seen else []
             self.seen.add(node)
             lines += [(chosen[node], "ok")] if node in chosen else []
-        log = self.exploration.program.log(path[-1][2].state.issued)
+        log = self.exploration.program.log(path[-1][2].issued)
         self.compare(lines, log)
         self.found.sessions += 1
         self.found.refused += sum(answer != "ok" for _, answer in lines)

@@ -9,7 +9,7 @@ from string import Template
 
 from cdc6600.drawing.forms import SVG
 from cdc6600.drawing.page import read
-from cdc6600.drawing.values import REGISTERS, values_of
+from cdc6600.drawing.values import REGISTERS
 from cdc6600.shared.telling import plural
 
 FOLDER = Path(__file__).resolve().parent
@@ -74,27 +74,28 @@ class Graph:
     def data(self):
         """What the script reads of each state, by number."""
         return [{
-            "layer": node.layer, "orders": str(node.orders), "has": [*self.holdings(node.state), self.values(node)],
+            "layer": node.layer, "orders": str(node.orders),
+            "has": [*self.holdings(node), self.values(node.state.values)],
             "edges": [[event, child.number] for event, child in node.edges.items()],
             "refused": list(node.refusals.items()),
         } for node in self.exploration.nodes]
 
-    def holdings(self, state):
+    def holdings(self, node):
         """What the parts have in a state, a sentence for each."""
-        rows = self.exploration.program.rows
+        state, rows = node.state, self.exploration.program.rows
         named = {row: f"{it.text} ({row})" for row, it in enumerate(rows) if row}
         found = [f"{unit}: {named[row]}, {state.phases[row]}" for unit, row in sorted(state.units.items())]
         found += [f"hopper {place}: {named[row]}" for place, row in sorted(state.places.items())]
         found += [f"channel {channel}: {named[row]}, {'loaded' if row in state.loaded else 'waiting'}"
                   for channel, row in sorted(state.channels.items())]
         found += [f"bank {bank} is busy" for bank in sorted(state.banks)]
-        issued = f"{state.issued} {plural(range(state.issued), 'instruction', 'instructions')} issued"
+        issued = f"{node.issued} {plural(range(node.issued), 'instruction', 'instructions')} issued"
         halt = "fault flag set" if state.fault else "running" if state.halt == "running" else f"halted: {state.halt}"
         return [f"{issued}; {halt}", *found]
 
-    def values(self, node):
+    @staticmethod
+    def values(values):
         """The registers of a state that aren't zero, with their octal values."""
-        values = values_of(self.exploration.judge_of(node))
         found = [f"{name} {values[name].lstrip('0')}" for name in REGISTERS if int(values[name], 8)]
         return f"registers, in octal: {', '.join([*found, 'all others 0'])}"
 

@@ -1,14 +1,14 @@
-"""Makes a schedule for a deck, event by event, and asks the machine whether each event may be made.
+"""Makes a schedule for a deck, event by event, and asks a machine that is kept whether each event may be made.
 
 An event that the machine refuses changes nothing and isn't part of the schedule. It is tried again when an event was
 made that may have removed what it was refused for.
 """
 
-from cdc6600.drawing.following import Fault, Following, Log, Session
+from cdc6600.asking.machine import is_refusal
+from cdc6600.drawing.following import DUMP_LINES, Fault, Following, Log, Replays, Session
 from cdc6600.limits import BANKS
-from cdc6600.operating.conversation import Conversation
 
-from .clock import Clock
+from .clock import Clock, is_taken
 from .course import Course
 from .requests import Requests
 
@@ -19,7 +19,7 @@ REMOVING = {
     "E8": "store return", "E9": "store return", "E10": "read", "E11": "accept", "E12": "store", "E13": "bank",
     "E14": "accept", "E18": "store accept return", "E25": "issue",
 }
-BUDGET_USED = "E3"
+BUDGET_USED, BRANCH = "E3", "branch"
 EXCHANGE, BANK = "exchange", "bank"
 # After the last cycle of any schedule.
 NEVER = float("inf")
@@ -41,10 +41,9 @@ class Schedule:
         self.clock = Clock(times)
         # The cycle up to which parts may be ready. The greedy policy doesn't look at it.
         self.limit = NEVER if policy == GREEDY else 0
-        self.course, self.requests = None, Requests(session.deck)
-        self.log, self.events, self.cycles, self.issued, self.dump = Log(), [], [], 0, []
-        self.refused, self.places, self.asked = {}, {}, None
-        self.talk = None
+        self.machine, self.course, self.requests = None, None, Requests(session.deck)
+        self.replays = Replays(program, session, session.file)
+        self.log, self.events, self.cycles, self.issued, self.refused = Log(), [], [], 0, {}
 
     def text(self):
         """The session: the deck's lines, and after them those of the schedule."""
@@ -61,8 +60,8 @@ class Schedule:
 
     def ask(self, key, line):
         """Asks for an event. The answer if it is made, otherwise none, and the refusal is kept."""
-        answer = self.talk.ask(line)
-        if answer.startswith("ok"):
+        answer = self.machine.make(line)
+        if not is_refusal(answer):
             return answer
         self.refused[key] = answer.split(" ")[0]
         if self.refused[key] not in REMOVING:
@@ -89,15 +88,18 @@ class Schedule:
             self.refused[self.clock.issuing] = BUDGET_USED
         if self.clock.issuing in self.refused or self.clock.issuing.ready > self.limit:
             return False
+        text, before = self.machine.state.next, self.log.mark
         answer = None if self.is_held() else self.ask(self.clock.issuing, "issue")
         if not answer:
             return False
         self.log.add_instruction()
-        text, is_taken, address = self.course.step()
         self.clock.issue(text)
+        leads_elsewhere = self.course.step()
         if answer != "ok":
             unit, number = answer.split(" ")[1:]
-            self.clock.reserve(int(number), unit, text, is_taken, address)
+            if unit == BRANCH and self.course.is_lost:
+                leads_elsewhere = is_taken(self.replays, self.log.text_of(*before), self.log.text)
+            self.clock.reserve(int(number), unit, text, leads_elsewhere)
         self.issued += 1
         self.made("issue")
         return True
@@ -106,25 +108,16 @@ class Schedule:
         """Whether the policy doesn't issue now. In program order nothing is issued while something is pending."""
         return self.policy == PROGRAM_ORDER and bool(self.clock.pending)
 
-    def line(self, part):
-        """The line of a reservation's next event."""
-        if part.event == "accept":
-            return f"accept {next(place for place, other in self.places.items() if other is part)}"
-        return f"{part.event} {part.channel if part.event == 'return' else part.unit}"
-
     def make_step(self, part):
         """A reservation makes its next event; whether that is done."""
         if part in self.refused or part.ready > self.limit:
             return False
-        line, event = self.line(part), part.event
+        line = self.machine.state.next_of(part.number)
         if not self.ask(part, line):
             return False
+        if part.event == "store":
+            part.address = self.machine.state.addresses.get(part.number)
         self.clock.step(part)
-        if event == "store" and part.address is not None:
-            # The lowest free place, by the rule of E11.
-            self.places[min(place for place in range(len(self.places) + 1) if place not in self.places)] = part
-        elif event == "accept":
-            del self.places[int(line[-1])]
         self.made(line)
         return True
 
@@ -144,23 +137,23 @@ class Schedule:
 
     def make_request(self):
         """Asks for an exchange, if that is due and no other one is asked for."""
-        package = self.requests.next(self.issued) if self.asked is None else None
+        package = None if self.machine.state.asked else self.requests.next(self.issued)
         if package is not None:
-            self.asked = f"{int(package, 8):o}"
-            self.ask(EXCHANGE, f"ask {self.asked}")
-            self.made(f"ask {self.asked}")
+            line = f"ask {int(package, 8):o}"
+            self.ask(EXCHANGE, line)
+            self.made(line)
 
     def make_exchange(self):
         """Makes the exchange that is asked for; whether that is done."""
         self.make_request()
-        if self.asked is None:
+        package = self.machine.state.asked
+        if not package:
             return False
         if EXCHANGE in self.refused or self.clock.issuing.ready > self.limit or not self.ask(EXCHANGE, EXCHANGE):
             return False
         self.clock.exchange()
-        self.course.exchange(int(self.asked, 8))
-        self.log.add(f"E{self.asked}")
-        self.asked = None
+        self.course.exchange(package)
+        self.log.add(f"E{package}")
         self.made(EXCHANGE)
         return True
 
@@ -177,7 +170,7 @@ class Schedule:
     def next_cycle(self):
         """The next cycle at which a part is ready, or none. A bank alone is no reason to go on."""
         cycles = [part.ready for part in (self.clock.issuing, *self.clock.pending) if part.ready > self.limit]
-        if self.clock.pending or self.asked is not None:
+        if self.clock.pending or self.machine.state.asked:
             cycles += [cycle for cycle in self.clock.banks.values() if cycle > self.limit]
         return min(cycles, default=None)
 
@@ -186,27 +179,25 @@ class Schedule:
 
         Raises Fault where the deck is refused, or the program doesn't answer as it should."""
         check_deck(self.program, self.session)
-        self.course = Course(self.program, self.session)
-        self.talk = Conversation(self.program.path, "\n".join([*self.session.deck, "end", ""]))
-        try:
-            while True:
-                while self.sweep():
-                    pass
-                cycle = self.next_cycle()
-                if cycle is None:
-                    break
-                self.limit = cycle
-            self.dump = self.talk.ask_last("end")
-        finally:
-            self.talk.end()
+        self.machine, self.course = self.session.machine(), Course(self.session)
+        while True:
+            while self.sweep():
+                pass
+            cycle = self.next_cycle()
+            if cycle is None:
+                break
+            self.limit = cycle
         self.clock.close()
         self.check_dump()
 
     def check_dump(self):
-        """Raises Fault where the last line isn't answered by the dump to which the instructions lead."""
-        if self.dump[-1] != f"LOG {self.log.text}" or len(self.dump) == 2:
-            raise Fault(self.program.path, f"it isn't drained after the log {self.log.text[:80]}")
-        line = self.course.differing(self.dump)
-        if line:
-            what = f"its dump has {line}, which isn't what the rules lead to"
-            raise Fault(self.program.path, f"after the log {self.log.text[:80]} {what}")
+        """Raises Fault where the machine isn't drained, or has another dump than the one to which the log leads."""
+        log = self.log.text
+        dump, wanted = self.machine.kept.dump()[0].decode("ascii").splitlines(), self.replays.dump(log)
+        if not dump:
+            raise Fault(self.session.file, f"the machine isn't drained after the log {log[:80]}")
+        # Only the dump of the log has the shown words.
+        for line, other in zip(dump, [*wanted[: DUMP_LINES - 1], wanted[-1]]):
+            if line != other:
+                what = f"after the log {log[:80]} it has {other}, and the schedule leads to {line}"
+                raise Fault(self.program.path, what)

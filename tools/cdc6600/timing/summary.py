@@ -49,7 +49,7 @@ def report(exploration, confirmed):
     """The lines of an exploration that the machine has confirmed."""
     events = sum(len(node.edges) for node in exploration.nodes)
     shortest, longest = exploration.extremes()
-    logs = [exploration.program.log(node.state.issued) for node in exploration.ends]
+    logs = [exploration.program.log(node.issued) for node in exploration.ends]
     lines = [
         f"{counted(exploration.count, 'state', 'states')}, {counted(events, 'event', 'events')} between them",
         f"schedules: {exploration.orders}",

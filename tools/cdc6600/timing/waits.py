@@ -7,8 +7,8 @@ be made.
 
 from dataclasses import dataclass
 
-from cdc6600.drawing.following import AFTER
-from cdc6600.drawing.judging import Judge, Refusal, states_of
+from cdc6600.asking.states import Refusal
+from cdc6600.drawing.retracing import Retracing
 from cdc6600.shared.telling import numbered
 
 from .clock import ORDER, Clock, Feed
@@ -47,14 +47,19 @@ class Hold:
 
 
 class Judged:
-    """Says by the rules what a part of a session waits for. `n` is the number of events that were made.
+    """Says by a machine what a part of a session waits for. `n` is the number of events that were made.
 
     `holds` has for each reservation its holds by their events and causes, the last one at the end. A wait of the
     issuing position belongs to the reservation that is issued next, unless an exchange comes before."""
 
     def __init__(self, following):
-        self.following, self.states, self.n = following, states_of(following), 0
+        self.retracing, self.n = Retracing(following), 0
         self.holds, self.issued_next = [{} for _ in following.rows], issued_next(following)
+
+    def go_to(self, n):
+        """Goes on until so many events are made."""
+        self.n = n
+        self.retracing.go_to(n)
 
     def row(self, part):
         """The reservation that a part makes its next event for, or 0."""
@@ -62,9 +67,11 @@ class Judged:
 
     def refusal(self, part):
         """The refusal of a part's next event, or none."""
-        log = self.following.logs[self.n - 1] if self.n else "none"
-        state = self.states[self.n]
-        return Judge(state, self.following, log).refusal(self.event(part, state))
+        return self.retracing.machine.judge(self.event(part))
+
+    def event(self, part):
+        """The line of a part's next event."""
+        return self.retracing.machine.state.next_of(part.number) if part.number else part.event
 
     def cause(self, part, cycles):
         """The number of the refusal of a part's next event, or that only the order of the schedule delays it. It is
@@ -78,15 +85,6 @@ class Judged:
         holds, key = self.holds[self.row(part)], (part.event, refusal.code if refusal else ORDER)
         before = holds.pop(key, None)
         holds[key] = Hold(part.event, refusal, cycles + (before.cycles if before else 0))
-
-    @staticmethod
-    def event(part, state):
-        """The line of a part's next event."""
-        if part.event in AFTER.values():
-            return f"{part.event} {part.unit}"
-        if part.event == "accept":
-            return f"accept {next(place for place, row in state.places.items() if row == part.number)}"
-        return f"return {part.channel}" if part.event == "return" else part.event
 
 
 def issued_next(following):
@@ -102,15 +100,16 @@ def issued_next(following):
 
 
 class Account:
-    """The account of a session that was followed to its end: the minor cycle of each event in `cycles`, and the holds
-    of each reservation. The parts of its clock have their waits: `issuing`, and in `parts` each reservation."""
+    """The account of a session that was followed to its end, by what says what its parts wait for: the minor cycle of
+    each event in `cycles`, and the holds of each reservation. The parts of its clock have their waits: `issuing`, and
+    in `parts` each reservation."""
 
-    def __init__(self, following, times):
-        judged = Judged(following)
+    def __init__(self, following, times, judge=Judged):
+        judged = self.judged = judge(following)
         self.clock, self.holds, self.cycles = Clock(times, judged.cause), judged.holds, []
         feed = Feed(following, self.clock)
         for n in range(following.columns):
-            judged.n = n
+            judged.go_to(n)
             feed.event(n)
             self.cycles.append(self.clock.now)
 
@@ -125,7 +124,7 @@ def holds_by_events(following):
     judged, clock = Judged(following), Clock(NO_TIMES)
     feed = Feed(following, clock)
     for n in range(following.columns):
-        judged.n = n
+        judged.go_to(n)
         for part in (it for it in (clock.issuing, *clock.pending) if judged.row(it)):
             refusal = judged.refusal(part)
             if refusal:

@@ -1,17 +1,16 @@
-"""Judges an event by a state: what it is refused for, and which reservations hold it back.
+"""A second reading of the rules, for the checks alone: what an event is refused for in a state, and which reservations
+hold it back.
 
-This is a second reading of the rules, with which checks compare the judgements of the library. The tests and their
-order are those of the table of events in docs/machine/rules.md. What an event is refused for by its budget or for want
-of memory can't be told by a state.
+The tests and their order are those of the table of events in docs/machine/rules.md. What an event is refused for by its
+budget or for want of memory can't be told by a state.
 """
 
 from dataclasses import dataclass
 
 from cdc6600.limits import BANKS, PACKAGE_WORDS
 
-from .following import Fault
-from .instructions import KINDS, kind_of, operands_of, results_of, stores
-from .states import RUNNING, State
+from .states_by_rules import RUNNING
+from .texts_by_rules import KINDS, kind_of, operands_of, results_of, stores
 
 SAID = {
     "E1": "halted", "E2": "faulted", "E3": "budget", "E4": "branch pending", "E5": "exchange waiting",
@@ -37,11 +36,11 @@ class Refusal:
 
 
 class Judge:
-    """What each event is answered in a state, after a log that led to it."""
+    """What each event is answered in the state of a reading."""
 
-    def __init__(self, state, following, log):
-        self.state, self.rows, self.replays, self.log = state, following.rows, following.replays, log
-        self.core = following.session.core
+    def __init__(self, reading):
+        self.state, self.rows, self.replays = reading.state, reading.rows, reading.replays
+        self.log, self.core = reading.log.text, reading.session.core
 
     def refusal(self, event):
         """The refusal of an event, or none where it is made."""
@@ -209,16 +208,37 @@ class Judge:
             yield Refusal("E27")
 
 
-def states_of(following):
-    """The states of a session that was followed: that of the booted machine, and the one after each event.
+def values_of(judge):
+    """The values in the state of a judge, in octal digits: by the names of the registers, and by the addresses of the
+    words that the deck shows, in six digits.
 
-    Raises Fault where the answers say that an event was made which is refused in its state."""
-    states, log = [State()], "none"
-    for n in range(following.columns):
-        refusal = Judge(states[-1], following, log).refusal(following.session.events[n])
-        if refusal and not following.is_refused(n):
-            said = f"line {n + 1}, {following.answers[n]}, where it is {refusal.answer} by the rules"
-            raise Fault(following.file, said)
-        states.append(states[-1].after(following, n))
-        log = following.logs[n]
-    return states
+    They are those that `replay` prints. Each result is in its register, and each stored word in memory, unless its
+    reservation is pending. Then the register or the word still has the value from before that reservation's issue: no
+    other pending reservation has the same result, and a bank takes the references to one word in order."""
+    replays, state, log = judge.replays, judge.state, judge.log
+    values = dict(replays.values(log))
+    for register, row in state.registers.items():
+        values[register] = replays.values(judge.rows[row].before)[register]
+    for row in storing(judge):
+        address = f"{judge.rows[row].address:06o}"
+        if address in values:
+            values[address] = replays.values(judge.rows[row].before)[address]
+    return values
+
+
+def storing(judge):
+    """The pending reservations that are to store a word, youngest first. Of several for one word the oldest counts."""
+    state, rows = judge.state, judge.rows
+    waiting = {*state.units.values(), *state.places.values()}
+    return sorted((row for row in waiting if stores(rows[row].text) and rows[row].address is not None), reverse=True)
+
+
+def text_now(judge):
+    """The text of the next instruction by the word that memory has now, empty if that is out of range. A pending store
+    to the word changes it later."""
+    replays, log = judge.replays, judge.log
+    address = None if judge.is_held else replays.absolute(log, replays.number(log, 0, 1))
+    waiting = [row for row in storing(judge) if judge.rows[row].address == address]
+    if not waiting:
+        return judge.next_text
+    return replays.listed(replays.word(judge.rows[waiting[-1]].before, f"{address:o}"), 0)

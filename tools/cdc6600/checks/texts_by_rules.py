@@ -1,4 +1,5 @@
-"""What the text of an instruction says: the kind of unit that it takes, its operands, and its results.
+"""A second reading of the rules, for the checks alone: what the text of an instruction says, which is the kind of unit
+that it takes, its operands, and its results.
 
 A text that is none, as `?30` or `?straddle` in a listing, takes no unit.
 """
@@ -7,20 +8,16 @@ import re
 
 from cdc6600.shared.instructions import instruction
 
-# The units of each kind, lowest number first, and their names in sentences.
+# The units of each kind, lowest number first.
 KINDS = {
     "branch": ("branch",), "boolean": ("boolean",), "shift": ("shift",), "add": ("add",), "longadd": ("longadd",),
     "multiply": ("multiply1", "multiply2"), "divide": ("divide",), "increment": ("increment1", "increment2"),
 }
-UNITS = tuple(unit for kind in KINDS.values() for unit in kind)
-NAMES = dict(zip(UNITS, (
-    "Branch", "Boolean", "Shift", "Add", "Long Add", "Multiply 1", "Multiply 2", "Divide", "Increment 1", "Increment 2"
-)))
 # The unit of an instruction that takes none, as docs/use/instructions.md has it.
 NO_UNIT = "none"
 # The register of the result comes after the first letter. A branch has none.
 RESULT = re.compile(r"[A-Z]([ABX][0-7]) ")
-LOADED, STORED = re.compile(r"SA([1-5]) "), re.compile(r"SA[67] |RJ ")
+LOADED, STORED, LINK = re.compile(r"SA([1-5]) "), re.compile(r"SA[67] |RJ "), "RJ "
 
 
 def kind_of(text):
