@@ -50,8 +50,8 @@ from .assembler import FAULTY, GOOD, PLACED, SHORT, SOURCES, WHOLE, bad_sources,
 from .browsers import in_each
 from .debian import provide
 from .driving_scripts import (
-    ABOUT, AGAIN, ASSEMBLED, CALL, FAULT, FOCUS, FOCUSED, GO_ON, KEPT, LINK, LISTED, OPENED, PLAYED, PRINTED, READY,
-    SEEN, START, STEPS, TIMED, WALK,
+    ABOUT, AGAIN, ASSEMBLED, CALL, COLUMNS, FAULT, FOCUS, FOCUSED, GO_ON, IN_SIGHT, KEPT, LINK, LISTED, MORE, OPENED,
+    PLAYED, PRINTED, READY, SEEN, START, STEPS, TIMED, WALK,
 )
 from .page_scripts import CONTRAST, SCROLLED, SMALL
 from .web_driver import Refused
@@ -61,7 +61,9 @@ WINDOWS, LEAST_CONTRAST = ((1280, 900), (640, 450), (400, 740), (320, 640)), 4.5
 DRAWN = ("loop", "subroutine", "store-into-code", "load-store", "short-field", "address-fault",
          "divide")
 EVENTS = 60
-# How many events are drawn to be shown with minor cycles: all of them are in the tables.
+# How many events are drawn to be made by their buttons: more than the timeline has at first.
+PLAYED_EVENTS = 90
+# How many events are drawn to be shown with minor cycles: the timeline has all of them.
 TIMED_EVENTS = 40
 PARTS = ("event", "answer", "words", "refused", "holds", "values", "machine", "units", "places", "channels", "banks",
          "registers")
@@ -275,7 +277,8 @@ class Tried:
     def drawing(self):
         """That what is drawn event by event is what is drawn at once, and what is there of it on paper."""
         self.start((ROOT / "decks/run/loop.deck").read_bytes())
-        self.browser.run(PLAYED, 1, EVENTS)
+        self.browser.run(PLAYED, 1, PLAYED_EVENTS)
+        self.differing("the last event is in sight in the timeline", True, self.browser.run(IN_SIGHT))
         seen, link = self.browser.run(SEEN), self.browser.run(LINK)
         self.open(f"#{link.split('#')[1]}")
         self.see("what is drawn at once", seen)
@@ -285,12 +288,14 @@ class Tried:
         wanted = {"controls": [], "missing": [], "events": count}
         self.differing("on paper", wanted, self.browser.run(PRINTED))
         self.browser.show_as(*WINDOWS[0])
+        self.differing("the columns if earlier ones are asked for", count, self.browser.run(COLUMNS))
 
     def timed(self, program):
         """The minor cycles that are shown if they are asked for, how they look, and that all is as it was without
         them."""
         self.start((ROOT / "decks/run/loop.deck").read_bytes())
         self.browser.run(PLAYED, 1, TIMED_EVENTS)
+        self.browser.run(MORE)
         seen, text = self.browser.run(SEEN), self.browser.run(STEPS)[0]
         following = followed(program, "the cycles of a loop", text)
         account = Account(following, read_times())

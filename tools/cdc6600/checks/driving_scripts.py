@@ -77,6 +77,27 @@ return {
 };
 """
 
+# Shows all rows of the tables.
+MORE = r"""
+["events", "reservations"].forEach((name) => document.getElementById(`more-${name}`).click());
+"""
+
+# Shows earlier columns of the timeline; how many columns it has then, or nothing if it had as many.
+COLUMNS = r"""
+const count = () => document.querySelectorAll("#picture text.quiet").length;
+const before = count();
+document.getElementById("more-columns").click();
+return count() > before ? count() : null;
+"""
+
+# Whether the mark of the last event is in sight in the box that is scrolled.
+IN_SIGHT = r"""
+const box = document.getElementById("scroll").getBoundingClientRect();
+const marks = [...document.querySelectorAll("#picture text:not(.quiet)")].map((it) => it.getBoundingClientRect());
+const last = marks.reduce((one, other) => (other.x > one.x ? other : one));
+return last.top >= box.top && last.bottom <= box.bottom && last.left >= box.left && last.right <= box.right;
+"""
+
 # What is shown with minor cycles: the numbers above the columns, those of the events in their table, first ones first,
 # the table of the reservations, and the total.
 TIMED = r"""

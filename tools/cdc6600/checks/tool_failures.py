@@ -48,6 +48,9 @@ HARNESS = (sys.executable, "-B", "-m", "cdc6600.checks.refused_starts")
 MINUTES = 3
 # With the least of these numbers of bytes Python itself can begin, with the most each of these tools ends as usual.
 LEAST_MEMORY, MOST_MEMORY = 20 << 20, 100 << 20
+# How often a tool is tried if Python crashes. With the least memory it did so once in some two thousand runs. Nobody
+# knows why.
+TRIES = 3
 # The program, which has all memory.
 WRAPPER = """#!/bin/sh
 ulimit -S -v unlimited
@@ -169,12 +172,21 @@ def wrapped(folder, program):
     return wrapper
 
 
+def ended_within(tool, most, program):
+    """Runs a tool with so many bytes of memory, and anew if Python crashes; how it ended."""
+    limited = {"preexec_fn": lambda: resource.setrlimit(resource.RLIMIT_AS, (most, -1))}
+    for _ in range(TRIES):
+        came = ended(tool, [ROOT / f"tools/{tool.name}", *tool.words], program, **limited)
+        if came.status != -signal.SIGSEGV:
+            break
+    return came
+
+
 def faults_of_memory(tool, folder, program):
     """Runs a tool with little memory, and with more and more up to its usual end; the faults."""
     faults, wrapper = [], wrapped(folder, program)
     for most in accumulate(count(), lambda most, _: most + most // 50, initial=LEAST_MEMORY):
-        limited = {"preexec_fn": lambda most=most: resource.setrlimit(resource.RLIMIT_AS, (most, -1))}
-        came = ended(tool, [ROOT / f"tools/{tool.name}", *tool.words], wrapper, **limited)
+        came = ended_within(tool, most, wrapper)
         if not came.status:
             return faults
         faults += faults_of_end(f"with {most} bytes of memory", tool, came)

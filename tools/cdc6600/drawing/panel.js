@@ -7,10 +7,23 @@ const byId = (id) => document.getElementById(id);
 // Whether something is shown otherwise than before the event.
 const differs = (one, other) => JSON.stringify(one) !== JSON.stringify(other);
 
-// Sets a text. One that is there already stays, because a browser lays out again what is set.
+// Sets a text. One that is there already stays, because a browser lays out again what is set. Another one is put in its
+// place, which takes a browser less than a new child.
 function write(element, text) {
-  if (element.textContent !== text) {
+  if (element.textContent === text) {
+    return;
+  }
+  if (text && element.childNodes.length === 1 && element.firstChild.nodeType === Node.TEXT_NODE) {
+    element.firstChild.data = text;
+  } else {
     element.textContent = text;
+  }
+}
+
+// Hides an element or shows it.
+function setHidden(element, isHidden) {
+  if (element.hidden !== isHidden) {
+    element.hidden = isHidden;
   }
 }
 
@@ -46,25 +59,30 @@ function showBanks(step, before) {
   write(byId("busy"), busy.length ? `Busy: ${busy.join(", ")}.` : "None is busy.");
 }
 
+// A row of the table of the reserved registers, without its texts.
+function registerRow(register, count) {
+  const element = document.createElement("tr");
+  element.id = `registers-${register}`;
+  const head = document.createElement("th");
+  head.scope = "row";
+  head.textContent = register;
+  element.append(head, ...Array.from({ length: count }, () => document.createElement("td")));
+  return element;
+}
+
 function showRegisters(step, before) {
+  const table = byId("registers");
   const rows = Object.entries(step.registers).map(([register, row]) => {
-    const element = document.createElement("tr");
-    element.id = `registers-${register}`;
-    const head = document.createElement("th");
-    head.scope = "row";
-    head.textContent = register;
-    const cells = row.map((text) => {
-      const cell = document.createElement("td");
-      cell.textContent = text;
-      return cell;
-    });
-    element.append(head, ...cells);
+    const element = byId(`registers-${register}`) ?? registerRow(register, row.length);
+    row.forEach((text, at) => write(element.cells[at + 1], text));
     mark(element, row, before.registers[register], step.holds);
     return element;
   });
-  byId("registers").replaceChildren(...rows);
-  byId("registers").parentElement.hidden = rows.length === 0;
-  byId("unreserved").hidden = rows.length > 0;
+  if (rows.length !== table.rows.length || rows.some((it, at) => it !== table.rows[at])) {
+    table.replaceChildren(...rows);
+  }
+  setHidden(table.parentElement, rows.length === 0);
+  setHidden(byId("unreserved"), rows.length > 0);
 }
 
 function showValues(after, changed) {

@@ -1,9 +1,9 @@
 // The page: the program's box, the buttons of the events, and what is shown of the machine.
 
-// The rows that a table has at first, and those that it gets at a time if more are asked for. A browser takes long for
-// many rows, also if they are out of sight, and for many lines of a listing.
-const FEW_ROWS = 50;
-const MORE_ROWS = 300;
+// The rows that a table has at first, the columns of the timeline, and how many of these are added at a time if more are
+// asked for. A browser takes long for many of them, also if they are out of sight, and for many lines of a listing.
+const MOST = { events: 20, reservations: 20, columns: 40 };
+const MORE = 300;
 const MOST_LINES = 3000;
 // A parcel with the instruction that does nothing.
 const PASS = "46000";
@@ -14,7 +14,7 @@ let timeline = null;
 // The rows of the listing, by the numbers of their lines or the addresses of their words, and what is marked there.
 let listing = new Map();
 let marked = { row: null, parcel: "" };
-// The most rows of each table.
+// The most rows of each table, and the columns that the timeline has at least.
 let most = {};
 
 function element(name, text, attributes = {}) {
@@ -59,21 +59,21 @@ function showFaults(lines) {
 const faultOf = (told) => (told ? [told.trim().replace("cdc6600: ", "")] : []);
 
 function print(words, text) {
-  byId("printed").hidden = false;
+  setHidden(byId("printed"), false);
   byId("printed-words").textContent = words;
   byId("dump").textContent = text;
 }
 
 /** Starts the program in the box, and makes the events behind its deck; whether it is accepted. */
 function start(events = null) {
-  byId("printed").hidden = true;
+  setHidden(byId("printed"), true);
   byId("linked").replaceChildren();
   program = read(byId("text").value);
   driven?.machine.free();
   driven = program.faults.length ? null : new Driven(library, program.deck);
   const faults = driven ? faultOf(driven.booted.told) : program.faults;
   showFaults(faults);
-  byId("driving").hidden = faults.length > 0;
+  setHidden(byId("driving"), faults.length > 0);
   if (faults.length) {
     driven?.machine.free();
     driven = null;
@@ -81,7 +81,7 @@ function start(events = null) {
   }
   prepareWords();
   prepareListing();
-  most = { events: FEW_ROWS, reservations: FEW_ROWS };
+  most = { ...MOST };
   const wrong = replay(events ?? program.events);
   show();
   byId("wrong").textContent = wrong;
@@ -113,7 +113,7 @@ function run() {
   const given = read(byId("text").value);
   const ran = given.faults.length ? { printed: "", told: "" } : attempt(() => library.run(given.deck));
   showFaults(given.faults.length ? given.faults : faultOf(ran.told));
-  byId("printed").hidden = true;
+  setHidden(byId("printed"), true);
   if (ran.printed) {
     print(`Run to its end, one instruction at a time. ${ENDINGS[ran.status] ?? ""}`, ran.printed);
     byId("printed").focus();
@@ -124,7 +124,7 @@ function list() {
   const given = read(byId("text").value);
   const ran = given.faults.length ? { printed: "", told: "" } : attempt(() => library.list(given.deck));
   showFaults(given.faults.length ? given.faults : faultOf(ran.told));
-  byId("printed").hidden = true;
+  setHidden(byId("printed"), true);
   if (ran.printed) {
     const [words, lines] = given.source
       ? ["Addresses, words and lines of the source program.", given.source.listing.join("\n")]
@@ -157,7 +157,7 @@ function showStep() {
   write(byId("which"), step ? `Event ${step.number}` : "Started");
   write(byId("event"), step?.event ?? "");
   write(byId("verdict"), step ? (step.refused ? "Refused" : "Made") : "");
-  byId("verdict").hidden = !step;
+  setHidden(byId("verdict"), !step);
   write(byId("answer"), step?.answer ?? "");
   write(byId("words"), step?.words ?? said("booted"));
 }
@@ -172,7 +172,7 @@ function prepareWords() {
     cells(row, ["", ""]);
     return row;
   }));
-  words.parentElement.hidden = names.length === 0;
+  setHidden(words.parentElement, names.length === 0);
 }
 
 const DRAINED = ["Nothing is pending, and the machine's dump is NOT that of its log.",
@@ -229,21 +229,39 @@ function setChildren(parent, wanted) {
   }
 }
 
-/** Shows the events that can be tried; the button that gets the focus, if the one that had it is gone. */
-function showOffers() {
+/** The events that can be tried, as the children of two elements, each with its key: those that the machine accepts and
+ * those that it refuses. */
+function offered() {
   const offers = driven.offers();
-  const held = document.activeElement?.closest("#may, #waits") && document.activeElement;
   const [refused, made] = [true, false].map((is) => offers.filter((it) => isRefusal(it.answer) === is));
-  setChildren(byId("may"), made.map(({ event }) => {
+  const may = made.map(({ event }) => {
     const note = driven.about(event);
     return [`${event}|${note}`, () => button(event, note)];
-  }));
-  byId("none").hidden = made.length > 0;
-  setChildren(byId("waits"), refused.map((it) => {
+  });
+  const waits = refused.map((it) => {
     const why = driven.words.why(it);
     return [`${it.event}|${it.answer}|${why}`, () => refusal(it, why)];
-  }));
-  byId("waiting").hidden = refused.length === 0;
+  });
+  return { may, waits };
+}
+
+/** Takes the focus from the button that has it, if that button is going to be removed; this button, or none. */
+function leave({ may, waits }) {
+  const held = document.activeElement;
+  const child = held?.closest("#may > *, #waits > *");
+  if (!child || [...may, ...waits].some(([key]) => key === child.key)) {
+    return null;
+  }
+  held.blur();
+  return held;
+}
+
+/** Shows the events that can be tried. */
+function showOffers({ may, waits }) {
+  setChildren(byId("may"), may);
+  setHidden(byId("none"), may.length > 0);
+  setChildren(byId("waits"), waits);
+  setHidden(byId("waiting"), waits.length === 0);
   const next = driven.next();
   write(byId("next").lastElementChild, next || "nothing can be made");
   setIdle("next", next === "");
@@ -251,7 +269,6 @@ function showOffers() {
   setIdle("redo", driven.undone.length === 0);
   ["undo", "to-start"].forEach((id) => setIdle(id, driven.steps.length === 0));
   setIdle("drain", driven.machine.isDrained);
-  return held && !held.isConnected ? successor(held.dataset) : null;
 }
 
 /** The button of the same event as one that is gone, or of the same reservation, or the first one. */
@@ -358,7 +375,7 @@ function eventRow(it) {
 /** Shows what the numbers in the tables and above the columns are, and with minor cycles the total. */
 function showTotal() {
   const { total } = driven.clock;
-  byId("cycle").hidden = !isTimed();
+  setHidden(byId("cycle"), !isTimed());
   write(byId("counted"), isTimed() ? "A number is a minor cycle." : "A number is that of the event.");
   write(byId("total"), isTimed() ? `${total} minor cycles in all. The number above a column is a minor cycle.` : "");
 }
@@ -373,30 +390,41 @@ function redraw() {
 function showTables() {
   const steps = driven.steps.slice(-most.events).reverse();
   setChildren(byId("events"), steps.map((it) => [it, () => eventRow(it)]));
-  byId("more-events").hidden = steps.length === driven.steps.length;
+  setHidden(byId("more-events"), steps.length === driven.steps.length);
   const rows = driven.reservations();
   setChildren(byId("reservations"), rows.slice(-most.reservations).map((it) => [it, () => reservationRow(it)]));
-  byId("more-reservations").hidden = rows.length <= most.reservations;
+  setHidden(byId("more-reservations"), rows.length <= most.reservations);
 }
 
-/** Shows more rows of a table. */
-function showMore(name, count = MORE_ROWS) {
+function showTimeline() {
+  timeline.draw(driven, isTimed(), most.columns);
+  setHidden(byId("more-columns"), timeline.first === 0);
+}
+
+/** Shows more rows of a table, or more columns of the timeline. */
+function showMore(name, count = MORE) {
   most[name] += count;
   showTables();
+  showTimeline();
 }
 
 function show() {
+  const offers = offered();
+  // This comes first, because a browser that removes the button with the focus lays the page out at once.
+  const left = leave(offers);
   showStep();
   showMachineNow();
-  const focused = showOffers();
-  timeline.draw(driven, isTimed());
+  showOffers(offers);
+  showTimeline();
   showTotal();
   const here = showListing();
   showTables();
   write(byId("wrong"), "");
   // What asks for sizes comes last, so that the browser lays the page out once.
-  focused?.focus({ preventScroll: true });
-  byId("scroll").scrollLeft = byId("scroll").scrollWidth;
+  if (left) {
+    successor(left.dataset).focus({ preventScroll: true });
+  }
+  timeline.follow();
   if (here) {
     byId("lines").scrollTop = here.offsetTop - byId("lines").clientHeight / 2;
   }
@@ -536,10 +564,9 @@ function listen() {
     "keep-session": () => keep("program.session", driven.session()),
     "keep-deck": () => keep("program.deck", driven.deck) };
   Object.entries(clicked).forEach(([id, work]) => byId(id).addEventListener("click", work));
-  for (const name of ["events", "reservations"]) {
-    byId(`more-${name}`).addEventListener("click", () => showMore(name));
-    window.addEventListener("beforeprint", () => driven && showMore(name, Infinity));
-  }
+  Object.keys(MOST).forEach((name) => byId(`more-${name}`).addEventListener("click", () => showMore(name)));
+  ["events", "reservations"].forEach((name) =>
+    window.addEventListener("beforeprint", () => driven && showMore(name, Infinity)));
   const shown = (work) => () => { work(); show(); };
   unlessIdle("next", () => act(driven.next()));
   unlessIdle("drain", shown(() => driven.drain()));
@@ -549,7 +576,7 @@ function listen() {
   byId("example").addEventListener("change", choose);
   byId("file").addEventListener("change", openFile);
   byId("minor-cycles").addEventListener("change", redraw);
-  byId("end").addEventListener("change", () => { byId("what").hidden = byId("end").value === "refused"; });
+  byId("end").addEventListener("change", () => { setHidden(byId("what"), byId("end").value === "refused"); });
   const submitted = { until: goOn, other: () => act(byId("typed").value.trim()) };
   Object.entries(submitted).forEach(([id, work]) => byId(id).addEventListener("submit", (event) => {
     event.preventDefault();
@@ -561,15 +588,15 @@ function listen() {
 async function begin() {
   const bytes = Uint8Array.from(atob(MODULE), (it) => it.charCodeAt(0));
   if (!canRun(bytes)) {
-    byId("unable").hidden = false;
+    setHidden(byId("unable"), false);
     return;
   }
   library = await Library.of(bytes);
-  byId("unproved").hidden = library.isProved !== false;
+  setHidden(byId("unproved"), library.isProved !== false);
   timeline = new Timeline(byId("picture"), byId("labels"));
   addExamples();
   listen();
-  byId("app").hidden = false;
+  setHidden(byId("app"), false);
   if (!openLink()) {
     choose();
   }

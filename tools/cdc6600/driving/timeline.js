@@ -4,10 +4,10 @@
 const LINE = 22;
 const COLUMN = 40;
 const MARGIN = 10;
-// Columns are taken away by so many at once, and there is room for three times as many: a browser lays out all texts
-// again if they move, or if the size of the picture changes. So its frame has the size of what is drawn.
-const COLUMNS_TAKEN = 100;
-const SIZE = { width: COLUMN * (3 * COLUMNS_TAKEN + 20), height: LINE * (3 * COLUMNS_TAKEN + 20) };
+// Columns are taken away by so many at once, and there is room for some more: a browser lays out all texts again if they
+// move, or if the size of the picture changes. So its frame has the size of what is drawn.
+const COLUMNS_TAKEN = 20;
+const roomFor = (count) => 100 * Math.ceil(count / 100) + COLUMNS_TAKEN;
 const SVG = "http://www.w3.org/2000/svg";
 const MACHINE = "machine";
 
@@ -46,7 +46,6 @@ function kept(items, stays) {
 class Timeline {
   constructor(picture, labels) {
     Object.assign(this, { picture, labels, frame: picture.parentElement });
-    change(picture, SIZE);
     this.driven = null;
   }
 
@@ -61,11 +60,11 @@ class Timeline {
     this.labels.replaceChildren(paper, drawn("text", { x: 4, y: heightOf(0) }, MACHINE), this.named);
   }
 
-  /** Draws the last events of a driven machine, with the reservations that were pending then. A column has the minor
-   * cycle of its event at its head, or else the number of the event. */
-  draw(driven, isTimed) {
+  /** Draws at least so many of the last events of a driven machine, if there are as many, with the reservations that
+   * were pending then. A column has the minor cycle of its event at its head, or else the number of the event. */
+  draw(driven, isTimed, least) {
     const { steps, asking: { rows } } = driven;
-    const first = Math.max(Math.floor(steps.length / COLUMNS_TAKEN) - 2, 0) * COLUMNS_TAKEN;
+    const first = Math.max(COLUMNS_TAKEN * Math.floor((steps.length - least) / COLUMNS_TAKEN), 0);
     if (this.driven !== driven || this.isTimed !== isTimed || first < this.first) {
       this.begin(driven);
       this.isTimed = isTimed;
@@ -77,6 +76,7 @@ class Timeline {
     this.count = steps.length;
     if (first > this.first) {
       this.items = kept(this.items, (it) => it.end >= first);
+      this.items.filter((it) => it.begin < first).forEach((it) => this.cut(it, first));
       const top = Math.min(...this.items.map((it) => it.row || rows.length));
       Object.assign(this, { first, top });
     }
@@ -125,10 +125,28 @@ class Timeline {
     (item.row ? this.reservations : this.machine)[where](item.element);
   }
 
+  /** Has a bar begin with this column as its first. */
+  cut(bar, begin) {
+    bar.begin = begin;
+    bar.element.setAttribute("x", middle(begin - 1));
+    this.lengthen(bar, bar.end);
+  }
+
   /** Has a bar end at a column. It begins at the one before its first. */
   lengthen(bar, end) {
     bar.end = end;
     bar.element.setAttribute("width", COLUMN * (end - bar.begin + 1));
+  }
+
+  /** Scrolls to the last column, and to the row of its event. */
+  follow() {
+    const box = this.frame.parentElement;
+    box.scrollLeft = box.scrollWidth;
+    const row = this.steps.at(-1)?.mark.row;
+    if (row) {
+      const [above, below] = [row - this.top, row - this.top + 3].map((it) => LINE * it);
+      box.scrollTop = Math.min(Math.max(box.scrollTop, below - box.clientHeight), above);
+    }
   }
 
   /** Adds the labels of new rows, and brings the rows in sight that have something in these columns. */
@@ -145,7 +163,9 @@ class Timeline {
     }
     const [left, up] = [MARGIN + 8 * Math.max(MACHINE.length, ...this.names.map((it) => it.size)), LINE * (1 - top)];
     const across = left - COLUMN * first;
-    const height = LINE * (rows.length - top + 2) + MARGIN;
+    const lines = rows.length - top + 2;
+    const height = LINE * lines + MARGIN;
+    change(this.picture, { width: COLUMN * roomFor(this.count - first), height: LINE * roomFor(lines) });
     change(this.machine, { transform: `translate(${across} 0)` });
     change(this.reservations, { transform: `translate(${across} ${up})` });
     change(this.named, { transform: `translate(0 ${up})` });
