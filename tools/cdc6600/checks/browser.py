@@ -18,8 +18,7 @@ page by minor cycles of a schedule is gone through by keyboard, with the cursor 
 cycles. The page of two schedules is tried in width and contrast.
 
 It says nothing where all is right, else the page and what is wrong. A browser that isn't installed is left out, and
-that is told. Chromium needs `chromedriver` too; Firefox is `firefox-esr`. If none of them is there, root has them
-installed from Debian. CDC6600 may name the program to ask.
+that is told. Chromium needs `chromedriver` too; Firefox is `firefox-esr`. CDC6600 may name the program to ask.
 
 Run it after a change of `tools/cdc6600/drawing`, of `tools/cdc6600/timing/graph.py`, of a session, or of what is
 answered.
@@ -42,7 +41,6 @@ from cdc6600.shared.waiting import Missing, run, wait_until
 
 from .browsers import in_each
 from .chromium import Chromium
-from .debian import provide
 from .page_scripts import ASKED, CONTRAST, HIDDEN, SCROLLED, SHOWN, SMALL, STILL
 from .web_driver import Refused
 
@@ -389,7 +387,6 @@ def tries(browser, folder, pages):
 
 def work():
     given, program = arguments(), Program()
-    provide("browser")
     with tempfile.TemporaryDirectory() as name:
         made = run([ROOT / "tools/gallery", name], stderr=subprocess.PIPE, text=True)
         if made.returncode:

@@ -3,7 +3,7 @@
 import sys
 
 from .chromium import Chromium
-from .debian import BROWSERS, absent
+from .debian import BROWSERS, absent, names_of
 from .firefox import Firefox
 
 CLIENTS = {"Chromium": Chromium, "Firefox": Firefox}
@@ -14,7 +14,7 @@ def installed():
     for name, client in CLIENTS.items():
         lacking = absent(BROWSERS[name])
         if lacking:
-            print(f"{sys.argv[0]}: {name} is left out: {' and '.join(lacking)} isn't installed", file=sys.stderr)
+            print(f"{sys.argv[0]}: {name} is left out: {names_of(lacking)} isn't installed", file=sys.stderr)
         else:
             yield name, client
 

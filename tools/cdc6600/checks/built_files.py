@@ -11,14 +11,15 @@
 The module is left out if `rt` or `wasm-opt` isn't installed, or if `wasm-opt` has another version than the one that
 made-with.txt names: then its bytes may differ although the sources are the same. That is told.
 
-With --write root has `wasm-opt` installed from Debian. CDC6600_MODULE may name a folder that tools/build-module has
-filled; one without its proof isn't written.
+--write needs `wasm-opt`. CDC6600_MODULE may name a folder that tools/build-module has filled; one without its proof
+isn't written.
 
 Run it after a change of the crate `embedding` or a crate below it, of cdc6600.mjs, of tools/cdc6600/module, of
 tools/cdc6600/driving or the panel of tools/cdc6600/drawing, of the assembler, or of a deck or a session.
 """
 
 import os
+import shutil
 import subprocess
 import sys
 import tempfile
@@ -33,7 +34,7 @@ from cdc6600.shared.ending import ended
 from cdc6600.shared.program import ROOT, tell
 from cdc6600.shared.waiting import Missing, run
 
-from .debian import install, is_installed
+from .debian import absent, how_to_install
 
 MADE_WITH = "made-with.txt"
 WRITING = "tools/check built-files --write"
@@ -58,7 +59,7 @@ def stored(name):
 def why_left_out():
     """Why the module can't be compared, or nothing if it can."""
     for program in ("rt", LOWERING):
-        if not is_installed(program):
+        if not shutil.which(program):
             return f"{program} isn't installed"
     told = stored(MADE_WITH).decode(errors="replace").splitlines()[1:]
     return f"it was made with {told[0]}, and here is {lowering()}" if told and told[0] != lowering() else ""
@@ -94,7 +95,8 @@ def compared():
 
 def write():
     """Makes all files, and writes them."""
-    install([it for it in (LOWERING,) if not is_installed(it)])
+    if lacking := absent((LOWERING,)):
+        raise Missing(f"{LOWERING} missing: {how_to_install(lacking)}")
     made = module()
     if made.endswith(marked(b"")):
         raise Missing("the module is built without its proof, and isn't written")

@@ -1,27 +1,45 @@
-"""The programs of other projects that some checks need. Where they are missing, Debian's packages have them."""
+"""The programs of other projects that some checks call, which tools/debian-packages lists with Debian's packages. A
+check installs none of them; the gate does, if root runs it."""
 
 import os
 import shutil
 import subprocess
 import sys
 from contextlib import suppress
+from dataclasses import dataclass
 
+from cdc6600.shared.program import ROOT
 from cdc6600.shared.waiting import Missing, run
 
-NEEDED = {
-    "emulators": ("rustc",), "embedding": ("cc", "pkg-config", "rustc"), "habits": ("man",), "module": ("node",),
-    "style": ("flake8",),
-}
+LIST = ROOT / "tools/debian-packages"
 # The browsers, with the programs that each needs. The checks of pages need one of them, and try the pages in each.
 BROWSERS = {"Chromium": ("chromium", "chromedriver"), "Firefox": ("firefox-esr",)}
-OF_PAGES = ("browser", "driving")
-PACKAGES = {
-    "cc": ("gcc", "libc6-dev"), "chromedriver": ("chromium-driver",), "chromium": ("chromium",),
-    "firefox-esr": ("firefox-esr",), "flake8": ("python3-flake8",), "man": ("man-db",), "node": ("nodejs",),
-    "pkg-config": ("pkg-config",), "rustc": ("rustc",), "wasm-opt": ("binaryen",),
-}
+OF_BROWSERS = sum(BROWSERS.values(), ())
+# A check that tries what it can without a program, and says what it left out.
+IN_PARTS = ("built-files",)
 # How many seconds an installation waits for another one, and how many minutes it may take.
-PATIENCE, MINUTES = 600, 30
+PATIENCE, MINUTES = 600, 10
+
+
+@dataclass(frozen=True)
+class Needed:
+    """A line of the list: a program, its packages, and the checks that need it."""
+
+    program: str
+    packages: tuple
+    checks: tuple
+
+    def is_installed(self):
+        """Whether the program is installed."""
+        if self.program == "flake8":
+            return bool(flake8())
+        return bool(shutil.which(os.environ.get("CC", "cc") if self.program == "cc" else self.program))
+
+
+def needed():
+    """The lines of the list."""
+    lines = (line.split() for line in LIST.read_text(encoding="utf-8").splitlines() if not line.startswith("#"))
+    return [Needed(program, *(tuple(names.split(",")) for names in others)) for program, *others in lines]
 
 
 def flake8():
@@ -34,42 +52,60 @@ def flake8():
     return []
 
 
-def is_installed(program):
-    """Whether a program is installed."""
-    return bool(flake8() if program == "flake8" else shutil.which(program))
-
-
-def absent(programs):
-    """Those of some programs that aren't installed."""
-    return [program for program in programs if not is_installed(program)]
+def absent(programs=None):
+    """The lines of these programs, or of all, that aren't installed."""
+    return [it for it in needed() if (programs is None or it.program in programs) and not it.is_installed()]
 
 
 def missing(check):
-    """The programs that the check of this name needs and that aren't installed."""
-    if check in OF_PAGES:
+    """The lines of the programs for which the check of this name can't run. Of the browsers one is enough."""
+    if check in IN_PARTS:
+        return []
+    of_check = [it.program for it in needed() if check in it.checks]
+    if set(of_check) <= set(OF_BROWSERS):
         lacking = [absent(programs) for programs in BROWSERS.values()]
-        return sum(lacking, []) if all(lacking) else []
-    return absent(NEEDED.get(check, ()))
+        return lacking[0] if of_check and all(lacking) else []
+    return absent(of_check)
 
 
-def provide(check):
-    """Installs what the check of this name needs, where something is missing."""
-    install(missing(check))
+def how_to_install(lines):
+    """The command that installs programs."""
+    return f"apt-get install {' '.join(package for it in lines for package in it.packages)}"
 
 
-def install(wanted):
-    """Installs programs, where this user may. Else it ends this process with a line that says what is missing."""
-    if not wanted:
-        return
-    packages = [package for program in wanted for package in PACKAGES[program]]
+def names_of(lines):
+    """The names of programs, in words."""
+    return " and ".join(it.program for it in lines)
+
+
+def require(check):
+    """Ends this process, if the check of this name can't run, with a line that says what is missing."""
+    lines = missing(check)
+    if lines:
+        sys.exit(f"{sys.argv[0]}: {names_of(lines)} missing: {how_to_install(lines)}")
+
+
+def is_provided(lines):
+    """Installs programs, if this user may; whether that was done."""
     if os.geteuid() != 0 or not shutil.which("apt-get"):
-        sys.exit(f"{sys.argv[0]}: {' and '.join(wanted)} missing: apt-get install {' '.join(packages)}")
+        return False
     quiet = {"stdin": subprocess.DEVNULL, "stdout": subprocess.DEVNULL, "stderr": subprocess.DEVNULL}
     quiet["env"] = {**os.environ, "DEBIAN_FRONTEND": "noninteractive"}
-    for words in (["update"], ["install", "-y", "--no-install-recommends", *packages]):
-        try:
-            status = run(["apt-get", "-o", f"DPkg::Lock::Timeout={PATIENCE}", *words], MINUTES, **quiet).returncode
-        except Missing as fault:
-            sys.exit(f"{sys.argv[0]}: {fault}")
-        if status:
-            sys.exit(f"{sys.argv[0]}: apt-get {' '.join(words)} failed")
+    _, *install = how_to_install(lines).split()
+    with suppress(Missing):
+        for words in (["update"], [*install, "-y", "--no-install-recommends"]):
+            begun = ["apt-get", "-o", f"DPkg::Lock::Timeout={PATIENCE}", *words]
+            if run(begun, MINUTES, **quiet).returncode:
+                return False
+        return True
+    return False
+
+
+def provide():
+    """Installs what is missing, but no browser, and gives a line that says so; none if nothing is missing."""
+    lines = [it for it in absent() if it.program not in OF_BROWSERS]
+    if not lines:
+        return None
+    if is_provided(lines):
+        return f"installed from Debian's packages: {names_of(lines)}"
+    return f"not installed: {names_of(lines)}. The command for it: {how_to_install(lines)}"

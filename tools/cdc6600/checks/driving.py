@@ -15,8 +15,7 @@ installed.
 
 It says nothing where all is right, else a line for each fault. CDC6600_MODULE may name a folder that tools/build-module
 has filled; else the check fills one. CDC6600 may name the program to ask. A browser that isn't installed is left out,
-and that is told. Chromium needs `chromedriver` too; Firefox is `firefox-esr`. If none of them is there, root has them
-installed from Debian.
+and that is told. Chromium needs `chromedriver` too; Firefox is `firefox-esr`.
 
 Run it after a change of the crate `embedding`, of cdc6600.mjs, of tools/cdc6600/driving, of the panel or the sentences
 of tools/cdc6600/drawing, of tools/cdc6600/assembling, or of a session.
@@ -48,7 +47,6 @@ from cdc6600.timing.waits import Account
 
 from .assembler import FAULTY, GOOD, PLACED, SHORT, SOURCES, WHOLE, bad_sources, each_text
 from .browsers import in_each
-from .debian import provide
 from .driving_scripts import (
     ABOUT, AGAIN, ASSEMBLED, CALL, COLUMNS, FAULT, FOCUS, FOCUSED, GO_ON, IN_SIGHT, KEPT, LINK, LISTED, MORE, OPENED,
     PLAYED, PRINTED, READY, SEEN, START, STEPS, TIMED, WALK,
@@ -327,7 +325,6 @@ class Tried:
 
 
 def work():
-    provide("driving")
     with tempfile.TemporaryDirectory() as room:
         folder = Path(os.environ.get("CDC6600_MODULE") or room)
         if "CDC6600_MODULE" not in os.environ:

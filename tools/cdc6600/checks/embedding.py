@@ -21,7 +21,7 @@ what they and the library's functions print and tell with what is stored for the
 
 It says nothing where all is right, else a line for each fault. CDC6600_LIBRARY may name the folder of the library to
 try, with its header; else tools/build-library builds it where a source is newer, and tells how far it is. It needs the
-C compiler `cc` and `rustc`: root has what is missing installed from Debian.
+C compiler `cc`, `pkg-config` and `rustc`.
 
 Run it after a change of the crate `embedding`, its header, its examples or docs/use/emulators.md.
 """
@@ -46,7 +46,6 @@ from cdc6600.shared.program import ROOT, Ran, tell
 from cdc6600.shared.waiting import Missing, faults_found, run
 
 from . import kept_machine
-from .debian import provide
 
 PAGE = ROOT / "docs/use/emulators.md"
 KEPT = ROOT / "crates/embedding/out"
@@ -379,7 +378,6 @@ def works(room, functions):
 
 
 def main():
-    provide("embedding")
     with tempfile.TemporaryDirectory() as folder:
         room = Room(folder)
         try:

@@ -13,8 +13,8 @@
 - The drawn decks have to be the same ones as ever, end before their budget, and have each instruction carried out.
 - The commands of docs/use/emulators.md have to print what is shown there.
 
-It prints each difference, and ends with status 1 then; else it prints nothing. It needs `rustc`, which root has
-installed from Debian. CDC6600 may name the program to try; else `./cdc6600` builds it.
+It prints each difference, and ends with status 1 then; else it prints nothing. It needs `rustc`. CDC6600 may
+name the program to try; else `./cdc6600` builds it.
 
 Run it after a change of what is computed or printed, of these tools, or of the plain interpreter.
 """
@@ -46,7 +46,6 @@ from cdc6600.shared.program import ROOT, Ran, tell
 from cdc6600.shared.waiting import Missing, run, wait_until
 
 from .bad_emulators import BAD, FOREVER, HANGS, INPUTS
-from .debian import provide
 from .planted import COVERED, PLANTED
 from .planted_edges import AT_EDGES
 from .planting import replaced_once, source_of
@@ -419,7 +418,6 @@ def all_faults():
 
 
 def work():
-    provide("emulators")
     # The tools that it calls would say that they build the library.
     library_path()
     return tell(faults_of(all_faults))

@@ -12,8 +12,7 @@
   stands before all of it as DESTDIR once, and a PREFIX that can't be is refused in one line. The library is left out:
   tools/check embedding installs it.
 
-It says nothing where all is right, else a line for each fault. CDC6600 may name the program to install. It needs `man`,
-which root has installed from Debian.
+It says nothing where all is right, else a line for each fault. CDC6600 may name the program to install. It needs `man`.
 
 Run it after a change of the command line, of the version, of docs/use/formats.md, of the page or of what is installed.
 """
@@ -28,7 +27,6 @@ from cdc6600.shared.decks import FIRST, cells_of, deck, lines_of
 from cdc6600.shared.program import ROOT, Program, tell
 from cdc6600.shared.waiting import faults_found, run
 
-from .debian import provide
 from .manual import Manual
 
 PAGE, FORMATS = ROOT / "docs/use/cdc6600.1", ROOT / "docs/use/formats.md"
@@ -260,7 +258,6 @@ def faults_of_installing(page, program, room):
 
 
 def main():
-    provide("habits")
     page, program = Manual(PAGE), Program()
     with tempfile.TemporaryDirectory() as room:
         works = (

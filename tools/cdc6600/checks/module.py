@@ -15,7 +15,7 @@
 It says nothing if all is right, otherwise a line for each fault. CDC6600 may name the program to compare with, and
 CDC6600_MODULE a folder that tools/build-module has filled. Otherwise that tool fills one, and proves the crate if a
 source is newer than what it has kept. Without `wasm-opt` the module with 32-bit addresses and heap.c are left out, and
-that is told. It needs `node`, which root has installed from Debian.
+that is told. It needs `node`.
 
 Run it after a change of the crate `embedding`, of its header, of cdc6600.mjs or of tools/cdc6600/module.
 """
@@ -41,7 +41,6 @@ from cdc6600.shared.program import ROOT, Program, Ran, tell
 from cdc6600.shared.waiting import Missing, run
 
 from . import kept_machine
-from .debian import provide
 from .in_node import CALLS, Functions, Machine, Node, flags_for, ran
 from .kept_machine import MISSING, USAGE, differing
 
@@ -269,7 +268,6 @@ def faults_with(folder, room):
 
 
 def work():
-    provide("module")
     named = os.environ.get("CDC6600_MODULE")
     with tempfile.TemporaryDirectory() as name:
         room = Path(name)

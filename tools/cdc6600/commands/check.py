@@ -6,7 +6,8 @@
 
 docs/work/checks.md describes each check, and says when to run it. A check that finds nothing prints nothing. Its faults
 are printed, a line or a few lines for each. CDC6600 may name the program to try; otherwise it is the one that
-tools/build-program builds. CDC6600_LIBRARY may name the folder with the library that the tools ask.
+tools/build-program builds. CDC6600_LIBRARY may name the folder with the library that the tools ask. A check that calls
+a program which isn't installed says so, and ends; tools/debian-packages lists these programs.
 
 Exit status:
   0    the checks find nothing
@@ -25,6 +26,7 @@ from importlib.util import find_spec
 from pathlib import Path
 
 from cdc6600.asking.library import KEPT, library_path
+from cdc6600.checks.debian import require
 from cdc6600.gate.parts import ASKING, NAMES, called, command, module
 from cdc6600.shared.ending import shown
 from cdc6600.shared.program import ROOT
@@ -48,6 +50,7 @@ def run_one(name, words):
     so would the commands that some checks interrupt."""
     signal.signal(signal.SIGINT, signal.default_int_handler)
     sys.argv = [called(name), *words]
+    require(name)
     if name in ASKING and library_path() == KEPT:
         # So none of the tools that the check calls has to look at the sources.
         os.environ["CDC6600_LIBRARY"] = str(KEPT.parent)

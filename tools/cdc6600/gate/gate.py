@@ -25,9 +25,12 @@ The parts, in their order:
   machine does, that a machine is driven by hand, installed, run many times and called from C and JavaScript; then that
   forgotten tokens are refused, and that `./cdc6600` builds no program of which a crate isn't proved.
 
-docs/work/checks.md says what each check looks at; their names are in parts.py. A check that needs a program which isn't
-installed is left out, and that is told, also where a part of it is left out. Otherwise a check that finds nothing says
-nothing. Where `rt ci` fails nothing more is tried.
+docs/work/checks.md says what each check looks at; their names are in parts.py. A check that finds nothing says nothing.
+Where `rt ci` fails nothing more is tried.
+
+If root runs it, the programs of tools/debian-packages that are missing are installed first, except for browsers. A
+check that needs a program which isn't installed is left out. The last lines name these checks, with the command that
+installs what they need. Where a part of a check is left out, that is told.
 """
 
 import os
@@ -40,7 +43,7 @@ from concurrent.futures import ThreadPoolExecutor
 from datetime import date
 from pathlib import Path
 
-from cdc6600.checks.debian import missing
+from cdc6600.checks.debian import how_to_install, missing, names_of, provide
 from cdc6600.shared.program import ROOT
 
 from .longest import Longest
@@ -95,6 +98,7 @@ class Gate:
 
     def __init__(self):
         self.passed, self.failed, self.took, self.unsure = 0, 0, [], None
+        self.left_out = {}
         self.longest = Longest()
 
     def part(self, name, work):
@@ -105,6 +109,15 @@ class Gate:
         self.failed += failed
         self.took.append((name, time.monotonic() - begun, processor_seconds() - used))
 
+    def silent(self, names):
+        """How many of the checks, side by side, find nothing, and how many do. Those that need a program which isn't
+        installed are left out."""
+        lacking = {name: missing(name) for name in names}
+        self.left_out |= {name: lines for name, lines in lacking.items() if lines}
+        with ThreadPoolExecutor(len(names)) as pool:
+            found = list(pool.map(is_silent, (name for name in names if not lacking[name])))
+        return found.count(True), found.count(False)
+
     def end(self):
         """Prints the longest checks, the times and the count; the status."""
         for line in self.longest.end():
@@ -113,22 +126,10 @@ class Gate:
             print(f"{name}: {seconds / 60:.1f} minutes, {used / 60:.1f} of processors")
         if self.unsure is not None:
             print(f"wrong bodies with the verdict can't tell: {self.unsure}")
+        for name, lines in self.left_out.items():
+            print(f"left out: {called(name)}, since {names_of(lines)} isn't installed: {how_to_install(lines)}")
         print(f"{self.passed} passed, {self.failed} failed", flush=True)
         return 1 if self.failed else 0
-
-
-def silent(names):
-    """How many of the checks, side by side, find nothing, and how many do. Those that need a program which isn't
-    installed are left out."""
-    ready = [name for name in names if is_ready(name)]
-    with ThreadPoolExecutor(len(names)) as pool:
-        found = list(pool.map(is_silent, ready))
-    return found.count(True), found.count(False)
-
-
-def small_checks():
-    """The checks that look at sources and pages alone."""
-    return silent(SMALL)
 
 
 def proofs(is_anew):
@@ -158,7 +159,7 @@ def bodies(gate, asked):
     """The wrong bodies, and beside them the runner's own tests and the library: how many were refused, and how many
     weren't."""
     with ThreadPoolExecutor(2) as pool:
-        others = [pool.submit(silent, [BODIES]), pool.submit(library)]
+        others = [pool.submit(gate.silent, [BODIES]), pool.submit(library)]
         tried, let_through, gate.unsure = counted([RUNNER, "--after-rt-ci", "--once", *sorted(asked)], TRIED)
         passed, failed = (sum(numbers) for numbers in zip(*(it.result() for it in others)))
     if "--all" in asked and not failed + let_through:
@@ -182,14 +183,6 @@ def age_of_all():
         return f"{ALL} doesn't say when all wrong bodies were last tried"
 
 
-def is_ready(name):
-    """Whether the programs are installed that a check needs; it is told which one isn't."""
-    absent = missing(name)
-    if absent:
-        print(f"{called(name)} is left out: {' and '.join(absent)} isn't installed", flush=True)
-    return not absent
-
-
 def changed():
     """What changed since the last look, by the work that was kept of it."""
     ended = subprocess.run(["rt", "all", "check"], check=False).returncode
@@ -198,17 +191,19 @@ def changed():
 
 def whole(gate, asked):
     """Every part, up to one in which something fails."""
-    gate.part("small checks", small_checks)
+    if told := provide():
+        print(told, flush=True)
+    gate.part("small checks", lambda: gate.silent(SMALL))
     if not gate.failed:
         gate.part("proofs and tests", lambda: proofs("--anew" in asked))
     if not gate.failed:
         gate.part("wrong bodies", lambda: bodies(gate, asked))
-        gate.part("decks", lambda: silent((*DECKS, *BUILDING)))
+        gate.part("decks", lambda: gate.silent((*DECKS, *BUILDING)))
 
 
 def quick(gate):
     """The parts of a look in between."""
-    gate.part("small checks", small_checks)
+    gate.part("small checks", lambda: gate.silent(SMALL))
     gate.part("what changed", changed)
 
 

@@ -1,6 +1,5 @@
 """Checks the style of all Python of the project by flake8, with the settings of .flake8. It prints a line for each
-fault, and nothing if there is none. Called by itself as root, it installs flake8 from Debian's packages if it isn't
-there.
+fault, and nothing if there is none.
 
 Run it after a change of the tools.
 """
@@ -8,7 +7,7 @@ Run it after a change of the tools.
 import subprocess
 import sys
 
-from cdc6600.checks.debian import flake8, provide
+from cdc6600.checks.debian import flake8
 from cdc6600.shared.program import ROOT
 
 SHEBANG = b"python3"
@@ -29,7 +28,6 @@ def sources():
 
 
 def main():
-    provide("style")
     ran = subprocess.run([*flake8(), *sources()], cwd=ROOT, stdout=subprocess.PIPE, text=True, check=False)
     sys.stdout.write(ran.stdout)
     return 1 if ran.returncode else 0
