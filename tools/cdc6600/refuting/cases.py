@@ -131,16 +131,20 @@ def in_parts(log):
     return re.sub(r"I([0-9]+)", lambda it: " ".join(["R0 I1"] * int(it[1])), log)
 
 
+def requests(*words):
+    """The cases of the page of requests for exchanges, by this command."""
+    packages = deck("four-packages").text
+    for at, (lines, budget, *_) in enumerate(rows_of(PAGES / "requests.md"), 1):
+        text = packages.replace(b"\nend\n", f"\n{lines}\nend\n".replace("; ", "\n").encode())
+        yield Case(f"row {at} of {PAGES.name}/requests.md by {' '.join(words)}", (*words, "--budget", budget), text)
+
+
 def rows():
     """The cases of the pages: decks that are refused, and requests for exchanges."""
     for at, row in enumerate(rows_of(PAGES / "refusals.md"), 1):
         text = row[0].replace("\\n", "\n").replace("\\r", "\r").encode()
         yield Case(f"row {at} of {PAGES.name}/refusals.md", ("list",), text)
-    packages = deck("four-packages").text
-    for at, (lines, budget, *_) in enumerate(rows_of(PAGES / "requests.md"), 1):
-        text = packages.replace(b"\nend\n", f"\n{lines}\nend\n".replace("; ", "\n").encode())
-        name = f"row {at} of {PAGES.name}/requests.md"
-        yield Case(f"{name} by run --sequential", ("run", "--sequential", "--budget", budget), text)
+    yield from requests("run", "--sequential")
 
 
 def refused():
@@ -155,7 +159,7 @@ def refused():
 def threaded():
     """The runs by threads."""
     found = [it for it in decks() if it.name not in LONG and not it.logs]
-    return [Case(f"{it} by run", ("run", *it.arguments), it.text) for it in found]
+    return [*(Case(f"{it} by run", ("run", *it.arguments), it.text) for it in found), *requests("run")]
 
 
 def drawn(program):
