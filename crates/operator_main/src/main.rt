@@ -9,8 +9,8 @@
 //! going.
 //!
 //! Its tests call `program`. Their first table is `CASES` in `command_tests`: a call of each command with its whole
-//! output. `end_tests` has the exit statuses of machines that halt or fault, and `fault_tests` the fault lines. Begin
-//! with `program::program`.
+//! output. `device_tests` has readers and writers that fail. Fault lines, and the exit statuses of machines that halt or
+//! fault, are in decks/, which `tools/check decks` and `tools/check pages` try. Begin with `program::program`.
 #![tactic(auto)]
 
 mod program;
@@ -67,8 +67,6 @@ fn main(rt: HostRuntime) -> ExitCode {
 mod command_tests;
 #[cfg(test)]
 mod device_tests;
-#[cfg(test)]
-mod end_tests;
 #[cfg(test)]
 mod fault_tests;
 #[cfg(test)]
