@@ -11,6 +11,8 @@ from cdc6600.shared.program import Program
 from cdc6600.shared.waiting import Missing, run
 
 SOURCE = Path(__file__).resolve().with_suffix(".c")
+# A run of these decks and sessions takes a fraction of a second. One that takes this long won't end.
+MINUTES = 0.5
 
 
 def built(source, folder):
@@ -38,7 +40,7 @@ class Failing:
         how = {"FAILING_CALL": call, "FAILING_AT": str(at), "FAILING_MARK": str(mark), "LD_PRELOAD": str(self.library)}
         how |= {"FAILING_FROM": "1"} if later else {}
         how |= {"FAILING_SHORT": "1"} if short else {}
-        ran = self.program.run(words, text, environment=how)
+        ran = self.program.run(words, text, MINUTES, how)
         failed = mark.exists()
         mark.unlink(missing_ok=True)
         return ran, failed
@@ -47,7 +49,7 @@ class Failing:
         """How a run ended, and how often memory was asked for."""
         counted = self.folder / f"counted{next(self.runs)}"
         how = {"FAILING_CALL": "memory", "FAILING_COUNT": str(counted), "LD_PRELOAD": str(self.library)}
-        ran = self.program.run(words, text, environment=how)
+        ran = self.program.run(words, text, MINUTES, how)
         number = int(counted.read_text(encoding="ascii"))
         counted.unlink()
         return ran, number
@@ -57,7 +59,7 @@ class Failing:
         reads a byte a call, so that a session writes each answer before it reads the next event."""
         traced = self.folder / f"traced{next(self.runs)}"
         how = {"FAILING_CALL": "memory", "FAILING_SHORT": "1", "FAILING_TRACE": str(traced)}
-        ran = self.program.run(words, text, environment=how | {"LD_PRELOAD": str(self.library)})
+        ran = self.program.run(words, text, MINUTES, how | {"LD_PRELOAD": str(self.library)})
         numbers = dict(map(int, line.split()) for line in traced.read_text(encoding="ascii").splitlines())
         traced.unlink()
         starts = [0, *(at + 1 for at, byte in enumerate(ran.printed) if byte == ord("\n"))]

@@ -18,9 +18,9 @@ reads and writes. What has to come of it:
 - A reader that gives one byte a call and a writer that takes one change nothing.
 - A fault line that can't be written leaves the status as it is.
 
-Each run has to end: the check waits ten minutes for it. It prints each difference, and ends with status 1 then; else it
-prints nothing. CDC6600 may name the program to try; else `./cdc6600` builds it. It needs a C compiler, `cc` or what CC
-names.
+Each run has to end within half a minute; a case ends at the first run that doesn't. The check prints each difference,
+and ends with status 1 then; else it prints nothing. CDC6600 may name the program to try; else `./cdc6600` builds it. It
+needs a C compiler, `cc` or what CC names.
 
 Run it after a change of what takes memory, reads or writes.
 """
@@ -36,6 +36,8 @@ from cdc6600.shared.program import followed
 from .failing_calls import Failing
 
 ENDS = (0, 3, 4, 5)
+# The status of a run that was killed since it didn't end.
+ENDLESS = 124
 NO_MEMORY = (6, b"cdc6600: E21 out of memory\n")
 READ_FAILED = (7, b"cdc6600: E22 read failed\n")
 WRITE_FAILED = (7, b"cdc6600: E23 write failed\n")
@@ -68,6 +70,10 @@ def free_logs():
         yield " ".join(f"E{at} I{count}" if count else f"E{at}" for at, count in zip((0, 20, 0), counts))
 
 
+class Endless(Exception):
+    """A run didn't end. The further runs of its case might not end either, and aren't waited for."""
+
+
 class Case:
     """A command with its input, and what comes of it as usual."""
 
@@ -79,9 +85,13 @@ class Case:
         self.faults = 0
 
     def fault(self, what, came):
-        """Prints a difference."""
+        """Prints a difference.
+
+        Raises Endless if the run didn't end."""
         self.faults += 1
-        print(f"tools/check failures: {' '.join(self.words)}, {what}: {tuple(came)}", file=sys.stderr)
+        print(f"tools/check failures: {' '.join(self.words)}, {what}: {tuple(came)}", file=sys.stderr, flush=True)
+        if came[0] == ENDLESS:
+            raise Endless
 
     def is_usual(self, came):
         """Whether this comes where no call fails."""
@@ -224,12 +234,20 @@ def cases(program):
     yield Case(program, [], b"")
 
 
+def faults_of(case):
+    """How many differences a case has."""
+    try:
+        return case.fail_all()
+    except Endless:
+        return case.faults
+
+
 def main():
     """The whole of it, as often as it is said."""
     times = int(sys.argv[1]) if len(sys.argv) > 1 else 1
     with tempfile.TemporaryDirectory() as folder:
         program = Failing(folder)
         with ThreadPoolExecutor() as side_by_side:
-            tried = [side_by_side.submit(case.fail_all) for _ in range(times) for case in cases(program)]
+            tried = [side_by_side.submit(faults_of, case) for _ in range(times) for case in cases(program)]
         faults = sum(it.result() for it in tried)
     return 1 if faults else 0

@@ -110,7 +110,7 @@ class Program:
             try:
                 printed, told = finish(process, self.path, minutes)
             except Missing:
-                return Ran(124, b"", b"waited %d minutes for its end\n" % minutes)
+                return Ran(124, b"", b"waited %g minutes for its end\n" % minutes)
         return Ran(process.returncode, printed, told)
 
     def replay(self, log, text):
