@@ -1,6 +1,6 @@
-"""What the program shows at a terminal while a run or a replay takes long: from the third second on, for how many
-seconds it has gone on. It clears this line at the end. A short run shows nothing, nor does one without a terminal or
-whose deck is typed, nor does a session.
+"""Checks what the program shows at a terminal while a run or a replay takes long: from the third second on, for how
+many seconds it has gone on. It clears this line at the end. A short run shows nothing, nor does one without a terminal
+or whose deck is typed, nor does a session.
 
 A long run here is one that waits for the end of its deck. The runs that are to show nothing begin first. When the
 others have shown their sixth second, all are given the ends of their decks, and what each has shown up to its own end

@@ -1,5 +1,5 @@
-"""Runs a deck by threads. The deck uses all seven units, loads, and asks for an exchange at any time. There are ten
-threads, and the run needs each of them.
+"""Checks that a run by threads has ten threads, and needs each of them. Its deck uses all seven units, loads, and asks
+for an exchange at any time.
 
 The program starts nine threads: one for each unit, the storage worker and the asking thread. For each of them there is
 a run in which held_thread.c keeps this thread from beginning. The main thread of such a run must still wait for another

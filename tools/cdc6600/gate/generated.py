@@ -1,4 +1,4 @@
-"""The pages that are generated from sources: docs/proof/calls.md, docs/work/crates.md, docs/work/checks.md and
+"""Checks the pages that are generated from sources: docs/proof/calls.md, docs/work/crates.md, docs/work/checks.md and
 docs/use/cdc6600.1.
 
     tools/check generated            names each page that isn't what the sources give now, and prints nothing else

@@ -1,4 +1,4 @@
-"""The limits that the code has of its own, and what goes past each: a deck, a session, a check or a test.
+"""Checks the limits that the code has of its own, and what goes past each: a deck, a session, a check or a test.
 
     tools/check limits           prints what differs, and nothing where all is right
     tools/check limits --list    prints each limit with what goes past it

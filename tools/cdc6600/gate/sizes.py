@@ -1,4 +1,4 @@
-"""The bounds on the sizes of crates and functions.
+"""Checks the bounds on the sizes of crates and functions.
 
     tools/check sizes            prints what is too large, and nothing if nothing is
 
@@ -6,7 +6,7 @@ It fails if a crate has more than 1,550 lines or 100 functions without its tests
 Some 1,500 lines are meant: a crate near that bound may still be mended, and is split when its subjects part. Tests are
 the files with `test` in their names, and all files of a crate whose name ends in `_tests`.
 
-Run it after every change.
+Run it after a change of the code.
 """
 
 from cdc6600.crates.crate import crates

@@ -1,4 +1,4 @@
-"""The words that have one meaning here, and where each may stand.
+"""Checks the words that have one meaning here, and where each may stand.
 
     tools/check words            prints each line with a word in another meaning, and nothing where all is right
 
