@@ -3,8 +3,8 @@
 - `man` has no warning for the page. Its synopsis, its lines of decks, its exit statuses and its fault lines are those
   of docs/use/formats.md, and its commands and options those that the program's help texts name.
 - docs/help.txt and docs/version.txt, which ./cdc6600 shows before the program is built, are what the program prints.
-- The table of tools/completions has the synopsis of docs/use/formats.md, and says what the program's help texts say.
-  The script for bash completes the commands and their options.
+- The scripts of tools/completions have the commands and options of the program's help texts; those for zsh and fish
+  have the sentences too.
 - Into a folder of its own, whose name has a space, tools/install installs the program, which runs a deck then, and the
   page, which `man` finds there. The examples of the page are run with that program. Each tool that is installed prints
   what the one of this repository prints, and what README.md links to is there, except for what only a checkout has.
@@ -22,7 +22,7 @@ import re
 import tempfile
 from pathlib import Path
 
-from cdc6600.installing.completions import ALONE, COMMANDS, FILES, HELP_COMMAND, NAME, synopsis
+from cdc6600.installing.completions import FILES, script_file
 from cdc6600.shared.decks import FIRST, cells_of, deck, lines_of
 from cdc6600.shared.program import ROOT, Program, tell
 from cdc6600.shared.waiting import faults_found, run
@@ -65,6 +65,10 @@ LEFT_OUT = {
     "tools": "share/doc/cdc6600/tools/timeline",
 }
 
+# An option in a help text: its short name, its name, and what is said of it.
+OPTION = re.compile(r"^ +(?:(-\w), )?(--[\w-]+)(?: <\w+>)?  +(.*?)(?: \[.*\])?$", re.MULTILINE)
+# The command that prints help texts.
+HELPING = "help"
 COMPLETE = '. "$0"; COMP_WORDS=("$@"); COMP_CWORD=$(($# - 1)); _cdc6600; echo "${COMPREPLY[@]}"'
 
 
@@ -108,7 +112,7 @@ def faults_of_help(page, program):
     statuses = re.findall(r"^  (\d)  ", text.partition("Exit status:")[2], re.MULTILINE)
     faults += differing("the statuses of --help", statuses, list(page.entries("EXIT STATUS")))
     options = set(re.findall(r"^  +(-.*?)(?:  |$)", text, re.MULTILINE))
-    for command in (it for it in named if it != HELP_COMMAND.name):
+    for command in (it for it in named if it != HELPING):
         said = program.run([command, "--help"]).printed.decode(errors="replace")
         options.update(re.findall(r"^  +(-.*?)(?:  |$)", said, re.MULTILINE))
         usage = re.findall(r"^Usage: (.*)$", said, re.MULTILINE)
@@ -129,17 +133,28 @@ def faults_of_copies(program):
     return faults
 
 
-def faults_of_table(program):
-    """What the table of completions says otherwise than docs/use/formats.md and the program's help texts."""
-    faults = differing("tools/completions, the synopsis", shown_synopsis(), synopsis())
-    text = program.run(["--help"]).printed.decode(errors="replace")
-    said = {it.name: it.said for it in (*COMMANDS, HELP_COMMAND)}
-    faults += differing("tools/completions, the commands", dict(re.findall(r"^  (\w+)  +([A-Z].*)$", text, re.M)), said)
-    for words, options in (([], ALONE), *(([it.name], it.all_options) for it in COMMANDS)):
-        text = program.run([*words, "--help"]).printed.decode(errors="replace")
-        shown = re.findall(r"^ .*(--[\w-]+)(?: <\w+>)?  +(.*?)(?: \[.*\])?$", text, re.MULTILINE)
-        said = [(it.name, it.said) for it in options]
-        faults += differing(" ".join(["tools/completions, the options of", NAME, *words]), shown, said)
+def completed(script, words):
+    """What the script for bash makes of words, the last of which is typed in part, and what it tells."""
+    ran = run(["bash", "-c", COMPLETE, script, "cdc6600", *words], capture_output=True, text=True)
+    return ran.stdout.split(), ran.stderr
+
+
+def faults_of_scripts(program):
+    """Which commands and options the scripts of tools/completions have otherwise than the program's help texts, and
+    what they say of them otherwise."""
+    zsh, fish = (script_file(it).read_text(encoding="utf-8").replace(r"'\''", "'") for it in ("zsh", "fish"))
+    listed = re.findall(r"^  (\w+)  +([A-Z].*)$", program.run(["--help"]).printed.decode(errors="replace"), re.M)
+    faults = differing("the commands in zsh", listed, re.findall(r"^ +'(\w+):(.*)'$", zsh, re.M))
+    faults += differing("the commands in fish", listed, re.findall(r" -a (\w+) -d '(.*)'$", fish, re.M))
+    for name in (name for name, _ in listed if name != HELPING):
+        options = OPTION.findall(program.run([name, "--help"]).printed.decode(errors="replace"))
+        names = [it for short, option, _ in options for it in (short, option) if it]
+        faults += differing(f"the options of {name} in bash", (names, ""), completed(script_file("bash"), [name, "-"]))
+        said = [(option, words) for _, option, words in options]
+        line = re.search(rf"^ +{name}\) (.*) ;;$", zsh, re.M)[1]
+        faults += differing(f"the options of {name} in zsh", said, re.findall(r"(--[\w-]+)(?:=|}')?\[(.*?)\]", line))
+        found = re.findall(rf"_from {name}'.* -l ([\w-]+)(?: -x)? -d '(.*)'$", fish, re.M)
+        faults += differing(f"the options of {name} in fish", said, [(f"--{option}", words) for option, words in found])
     return faults
 
 
@@ -225,8 +240,7 @@ class Installed:
         """Completes words by the script for bash."""
         faults, script = [], str(self.prefix / FILES["bash"])
         for words, wanted in COMPLETED:
-            ran = self.run(["bash", "-c", COMPLETE, script, "cdc6600", *words])
-            faults += differing(f"bash completes {' '.join(words)}", (wanted, ""), (ran.stdout.split(), ran.stderr))
+            faults += differing(f"bash completes {' '.join(words)}", (wanted, ""), completed(script, words))
         return faults
 
     def faults_of_examples(self, page, folder):
@@ -262,6 +276,6 @@ def main():
     with tempfile.TemporaryDirectory() as room:
         works = (
             lambda: faults_of_page(page), lambda: faults_of_help(page, program), lambda: faults_of_copies(program),
-            lambda: faults_of_table(program), lambda: faults_of_installing(page, program, Path(room)),
+            lambda: faults_of_scripts(program), lambda: faults_of_installing(page, program, Path(room)),
         )
         return tell([fault for work in works for fault in faults_found(work)])

@@ -8,18 +8,18 @@ tools/install installs the scripts for all three shells, where these look for th
 
 import sys
 
-from cdc6600.installing.completions import SHELLS
+from cdc6600.installing.completions import FILES, script_file
 from cdc6600.shared.ending import Parser, ended
 
 
 def arguments():
     parser = Parser(__doc__)
-    parser.add_argument("shell", metavar="SHELL", choices=SHELLS, help="bash, zsh or fish")
+    parser.add_argument("shell", metavar="SHELL", choices=FILES, help="bash, zsh or fish")
     return parser.parse_args()
 
 
 def work():
-    sys.stdout.write(SHELLS[arguments().shell]())
+    sys.stdout.write(script_file(arguments().shell).read_text(encoding="utf-8"))
     return 0
 
 

@@ -39,7 +39,7 @@ from pathlib import Path
 
 from cdc6600.building.library import ARCHIVE, SHARED
 from cdc6600.installing.archive import archive, is_archive
-from cdc6600.installing.completions import FILES, SHELLS
+from cdc6600.installing.completions import FILES, script_file
 from cdc6600.installing.installation import Fault, Installation, Piece
 from cdc6600.shared.ending import printable
 from cdc6600.shared.program import BUILT, ROOT, Program, named_program
@@ -179,7 +179,7 @@ def pieces(prefix, without):
         yield Piece("share/man/man1/cdc6600.1", (ROOT / "docs/use/cdc6600.1").read_bytes())
     if "completions" not in without:
         for shell, name in FILES.items():
-            yield Piece(name, SHELLS[shell]().encode())
+            yield Piece(name, script_file(shell).read_bytes())
     if "library" not in without:
         yield from library_pieces(prefix)
     if "tools" not in without:

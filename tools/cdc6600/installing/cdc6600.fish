@@ -1,0 +1,18 @@
+# Completes the words of cdc6600 in fish.
+complete -c cdc6600 -f
+complete -c cdc6600 -n 'not __fish_seen_subcommand_from run replay events list help' -a run -d 'Runs the deck on standard input and prints the machine'\''s dump'
+complete -c cdc6600 -n 'not __fish_seen_subcommand_from run replay events list help' -a replay -d 'Goes through LOG on the deck on standard input, one instruction at a time, and prints the machine'\''s dump'
+complete -c cdc6600 -n 'not __fish_seen_subcommand_from run replay events list help' -a events -d 'Makes the events of the schedule after the deck on standard input, one a line, and answers each'
+complete -c cdc6600 -n 'not __fish_seen_subcommand_from run replay events list help' -a list -d 'Prints the words of the deck on standard input with their instructions'
+complete -c cdc6600 -n 'not __fish_seen_subcommand_from run replay events list help' -a help -d 'Print this message or the help of the given subcommand(s)'
+complete -c cdc6600 -n 'not __fish_seen_subcommand_from run replay events list help' -s h -l help -d 'Print help'
+complete -c cdc6600 -n 'not __fish_seen_subcommand_from run replay events list help' -s V -l version -d 'Print version'
+complete -c cdc6600 -n '__fish_seen_subcommand_from help' -a 'run replay events list'
+complete -c cdc6600 -n '__fish_seen_subcommand_from run' -l sequential -d 'Does one instruction at a time, without threads'
+complete -c cdc6600 -n '__fish_seen_subcommand_from run' -l budget -x -d 'Issues at most N instructions'
+complete -c cdc6600 -n '__fish_seen_subcommand_from run' -s h -l help -d 'Print help'
+complete -c cdc6600 -n '__fish_seen_subcommand_from replay' -l log-follows -d 'Reads the log from the line after the deck'
+complete -c cdc6600 -n '__fish_seen_subcommand_from replay' -s h -l help -d 'Print help'
+complete -c cdc6600 -n '__fish_seen_subcommand_from events' -l budget -x -d 'Issues at most N instructions'
+complete -c cdc6600 -n '__fish_seen_subcommand_from events' -s h -l help -d 'Print help'
+complete -c cdc6600 -n '__fish_seen_subcommand_from list' -s h -l help -d 'Print help'
