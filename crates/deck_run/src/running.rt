@@ -1,6 +1,7 @@
 //! Runs a deck with threads: a worker for each unit, one for memory, and this thread, which issues.
 ghost use Rattle.std.specs.Prelude.{◌≡◌, MatchResult, IfOk};
 ghost use Rattle.instructions.specs.declared.refusal.Refusal.TheVariants.{OutOfMemory};
+ghost use Rattle.operator_terms.specs.declared.fault.ProgramFault.TheVariants.{Refused};
 ghost use Rattle.program_order.specs.Processor.{boot_processor};
 ghost use Rattle.sequential_job.specs.Running.{asks_after};
 ghost use Rattle.sequential_run.specs.Run.{IsRun};
@@ -66,6 +67,18 @@ fn open_gates() -> Gates<Open> {
     }
 }
 
+/// The fault with which a run ends that this refusal ended: want of memory is told as such.
+fn fault_of_run(refusal: &Refusal) -> ProgramFault
+    ensures ends { EndsNoRun result }
+    ensures memory { refusal.now ≡ OutOfMemory → result ≡ Refused OutOfMemory }
+    ensures stuck { result ≡ Refused OutOfMemory → refusal.now ≡ OutOfMemory }
+{
+    match refusal {
+        Refusal::OutOfMemory => ProgramFault::Refused(Refusal::OutOfMemory),
+        _ => ProgramFault::Stuck,
+    }
+}
+
 /// Boots a machine with a deck's memory and runs it to the end with threads, making the deck's requests for exchanges.
 /// Returns a snapshot of the machine, which has exactly this budget. Its log leads from the deck's memory to its state,
 /// begins with the exchange for the deck's first package, and fulfils the deck's requests.
@@ -89,7 +102,6 @@ pub fn run<T: Threads + Wait + Clock + Sync>(
     };
     match run_threads(rt, alloc, machine, &orders, open_gates()) {
         Ok(ended) => Ok(ended.snapshot),
-        Err(Refusal::OutOfMemory) => Err(ProgramFault::Refused(Refusal::OutOfMemory)),
-        Err(_) => Err(ProgramFault::Stuck),
+        Err(refusal) => Err(fault_of_run(&refusal)),
     }
 }

@@ -1,6 +1,6 @@
 //! The machine with its lock held.
 ghost use Rattle.std.specs.Prelude.{◌≡◌, ◌≢◌, ◌≤◌, ◌||◌, ◌⊎◌, ℕ, true, false, None, Some, not, IfErr, IfOk};
-ghost use Rattle.std.specs.Prelude.{MatchResult};
+ghost use Rattle.std.specs.Prelude.{MatchResult, if◌then◌else◌};
 ghost use Rattle.instructions.specs.declared.refusal.Refusal.TheVariants.{NotDrained, OutOfMemory, Stranger};
 ghost use Rattle.sequential.specs.Log.{issued};
 ghost use Rattle.sequential.specs.Replay.{Issued, Exchanged, ReadAt, Wrote, boot, replay};
@@ -414,7 +414,8 @@ impl<K: Naming> LockedMachine<K> {
             ≡ Some snapshot.state) }
         ensures fault { IfOk result (λ snapshot. snapshot.state.fault ≡ true
             → IsFaultedRun snapshot.log snapshot.boot_memory snapshot.state) }
-        ensures named { IfErr result (λ refusal. (refusal ≡ NotDrained) ⊎ (refusal ≡ OutOfMemory)) }
+        ensures taken { MatchResult result (λ _. is_pending self.old.processor.pending ≡ false)
+            (λ refusal. refusal ≡ (if is_pending self.old.processor.pending then NotDrained else OutOfMemory)) }
     {
         compare(&self.word, &mut self.pass, seen, &self.machine);
         self.machine.snapshot()
