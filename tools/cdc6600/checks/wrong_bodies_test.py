@@ -12,11 +12,13 @@ import subprocess
 import tempfile
 import unittest
 from pathlib import Path
+from unittest import mock
 
+from cdc6600.building import unproved
 from cdc6600.crates.source import Sources
 from cdc6600.crates.table import Table
 from cdc6600.refuting.cases import Ran
-from cdc6600.refuting.choosing import with_bodies
+from cdc6600.refuting.choosing import Choice, with_bodies
 from cdc6600.shared.program import ROOT
 from cdc6600.wrong_bodies.assumed import as_proved, assumed
 from cdc6600.wrong_bodies.copies import beside, can_stand_beside, copied, copy_of
@@ -304,6 +306,13 @@ class Reading(unittest.TestCase):
         number = chosen.numbers["larger_of_two"]
         arm = f"{{\nif crate::chosen_body() == {number} {{\n    if a < b {{ b }} else {{ a }}\n}} else\n{{\n"
         self.assertIn(f"{arm}    if a < b {{ a }} else {{ b }}\n}}\n}}", chosen.texts["src/lib.rt"])
+
+    def test_tests_are_built_beside_the_program(self):
+        table, file = Table(self.crate.parent.parent), self.crate / "src/lib.rt"
+        with tempfile.TemporaryDirectory() as room, mock.patch.object(unproved, "build", return_value=file):
+            choice = Choice(table, Path(room))
+            built = {choice.built("tiny", is_test).room for is_test in (False, True)}
+        self.assertEqual(len(built), 2)
 
     def test_first_difference_is_told(self):
         right = Ran(0, b"ok\nE1 halted\n", b"")

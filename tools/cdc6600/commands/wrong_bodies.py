@@ -93,10 +93,6 @@ def run_unsure(table, crates, given):
         crate.bodies += crate.let_through
         crate.verdicts |= {it.name: Verdict(CANT_TELL, "its contract lets it through") for it in crate.let_through}
     refute(table, crates, given.at_once or host.places())
-    for crate in crates:
-        for name, verdict in sorted(crate.verdicts.items()):
-            if verdict.kind == REFUTED:
-                print(f"{crate.name}/{name}: refuted by {verdict.words}")
     for crate, body in unsure_in(crates):
         if UNSURE not in body.notes:
             words = f"nothing refutes it, and its edit has no line `{UNSURE}: `"

@@ -106,7 +106,8 @@ class Choice:
         """The executable of a program, or that of a crate's tests.
 
         Raises Unproved if it can't be built."""
-        room = self.room / "built" / crate
+        # The program has tests of its own, so a crate may be built twice.
+        room = self.room / "built" / (f"tests-of-{crate}" if is_test else crate)
         room.mkdir(parents=True)
         data = unproved.build(self.table, checker().parent.parent, crate, room, is_test).read_bytes()
         return Executable(self, room, data)

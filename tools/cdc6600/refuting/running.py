@@ -72,10 +72,12 @@ class Refuting:
             for (crate, body), found in zip(left, pool.map(difference, left)):
                 if found:
                     crate.verdicts[body.name] = Verdict(REFUTED, found)
+                    print(f"{crate.name}/{body.name}: refuted by {found}", flush=True)
 
 
 def refute(table, crates, at_once):
-    """Runs the bodies of which it can't be told, so many at once, and notes those that a case refutes.
+    """Runs the bodies of which it can't be told, so many at once. It notes those that a case refutes, and prints each
+    with its case.
 
     Raises Unreadable if an executable with all wrong bodies can't be built."""
     if left_in(crates):
