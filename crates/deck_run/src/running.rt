@@ -67,7 +67,7 @@ fn open_gates() -> Gates<Open> {
     }
 }
 
-/// The fault with which a run ends that this refusal ended: want of memory is told as such.
+/// The fault of a run that ended with this refusal: `OutOfMemory` for lack of memory, `Stuck` for any other refusal.
 fn fault_of_run(refusal: &Refusal) -> ProgramFault
     ensures ends { EndsNoRun result }
     ensures memory { refusal.now ≡ OutOfMemory → result ≡ Refused OutOfMemory }

@@ -11,8 +11,11 @@ from cdc6600.shared.program import Program
 from cdc6600.shared.waiting import Missing, run
 
 SOURCE = Path(__file__).resolve().with_suffix(".c")
-# A run of these decks and sessions takes a fraction of a second. One that takes this long won't end.
-MINUTES = 0.5
+# A run of these decks and sessions takes a fraction of a second. A run that takes this long won't end, unless the
+# machine has more work than this for each of its processors.
+MINUTES, BUSY = 0.5, 4
+# The status of a run that was killed because it didn't end.
+ENDLESS = 124
 
 
 def built(source, folder):
@@ -34,13 +37,20 @@ class Failing:
         self.program, self.folder, self.runs = Program(), Path(folder), count()
         self.library = built(SOURCE, folder)
 
+    def ended(self, words, text, how):
+        """How a run ended. On a busy machine a run without an end is tried again, and gets ten minutes."""
+        came = self.program.run(words, text, MINUTES, how)
+        if came.status == ENDLESS and os.getloadavg()[0] > BUSY * len(os.sched_getaffinity(0)):
+            return self.program.run(words, text, environment=how)
+        return came
+
     def run(self, words, text, call="", at=0, later=False, short=False):
         """How a run ended, and whether a call failed."""
         mark = self.folder / f"failed{next(self.runs)}"
         how = {"FAILING_CALL": call, "FAILING_AT": str(at), "FAILING_MARK": str(mark), "LD_PRELOAD": str(self.library)}
         how |= {"FAILING_FROM": "1"} if later else {}
         how |= {"FAILING_SHORT": "1"} if short else {}
-        ran = self.program.run(words, text, MINUTES, how)
+        ran = self.ended(words, text, how)
         failed = mark.exists()
         mark.unlink(missing_ok=True)
         return ran, failed
@@ -49,7 +59,7 @@ class Failing:
         """How a run ended, and how often memory was asked for."""
         counted = self.folder / f"counted{next(self.runs)}"
         how = {"FAILING_CALL": "memory", "FAILING_COUNT": str(counted), "LD_PRELOAD": str(self.library)}
-        ran = self.program.run(words, text, MINUTES, how)
+        ran = self.ended(words, text, how)
         number = int(counted.read_text(encoding="ascii"))
         counted.unlink()
         return ran, number
@@ -59,7 +69,7 @@ class Failing:
         reads a byte a call, so that a session writes each answer before it reads the next event."""
         traced = self.folder / f"traced{next(self.runs)}"
         how = {"FAILING_CALL": "memory", "FAILING_SHORT": "1", "FAILING_TRACE": str(traced)}
-        ran = self.program.run(words, text, MINUTES, how | {"LD_PRELOAD": str(self.library)})
+        ran = self.ended(words, text, how | {"LD_PRELOAD": str(self.library)})
         numbers = dict(map(int, line.split()) for line in traced.read_text(encoding="ascii").splitlines())
         traced.unlink()
         starts = [0, *(at + 1 for at, byte in enumerate(ran.printed) if byte == ord("\n"))]

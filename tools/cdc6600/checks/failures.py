@@ -18,9 +18,9 @@ reads and writes. What has to come of it:
 - A reader that gives one byte a call and a writer that takes one change nothing.
 - A fault line that can't be written leaves the status as it is.
 
-Each run has to end within half a minute; a case ends at the first run that doesn't. The check prints each difference,
-and ends with status 1 then; else it prints nothing. CDC6600 may name the program to try; else `./cdc6600` builds it. It
-needs a C compiler, `cc` or what CC names.
+Each run has to end within half a minute, or ten on a busy machine; a case ends at the first run that doesn't. The check
+prints each difference, and ends with status 1 then; else it prints nothing. CDC6600 may name the program to try; else
+`./cdc6600` builds it. It needs a C compiler, `cc` or what CC names.
 
 Run it after a change of what takes memory, reads or writes.
 """
@@ -33,11 +33,9 @@ from itertools import product
 from cdc6600.shared.decks import deck, log_of, session
 from cdc6600.shared.program import followed
 
-from .failing_calls import Failing
+from .failing_calls import ENDLESS, Failing
 
 ENDS = (0, 3, 4, 5)
-# The status of a run that was killed since it didn't end.
-ENDLESS = 124
 NO_MEMORY = (6, b"cdc6600: E21 out of memory\n")
 READ_FAILED = (7, b"cdc6600: E22 read failed\n")
 WRITE_FAILED = (7, b"cdc6600: E23 write failed\n")
