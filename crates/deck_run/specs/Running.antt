@@ -3,7 +3,6 @@
 use Rattle.std.specs.Prelude.{◌≡◌, ◌⊎◌, ℕ, Bool, true, false, List, Option, Some, None, Result, Ok, Err}
 use Rattle.std.specs.Io.KnownBytes.{Keeps, Appends}
 use Rattle.instructions.specs.declared.refusal.Refusal.{Refusal}
-use Rattle.instructions.specs.declared.refusal.Refusal.TheVariants as refusals
 use Rattle.sequential.specs.declared.state.State.{State}
 use Rattle.sequential.specs.Log.{entries_of}
 use Rattle.sequential.specs.Replay.{LogStep}
@@ -21,7 +20,7 @@ use Rattle.operator_terms.specs.Status.{status_of, fault_of}
 
 -- the faults with which a run fails: out of memory, or the machine refused a step
 abbrev pub EndsNoRun : ProgramFault → Type 0
-EndsNoRun fault = (fault ≡ faults.Refused refusals.OutOfMemory) ⊎ (fault ≡ faults.Stuck)
+EndsNoRun fault = (fault ≡ faults.OutOfMemory) ⊎ (fault ≡ faults.Stuck)
 
 -- the result and the output of a deck's run with a budget. A success prints the dump of a state to which some log
 -- leads, and that state gives the status. A failed write leaves a prefix of such a dump. Any other fault prints nothing
@@ -29,18 +28,18 @@ abbrev pub PrintsRun : Result Status ProgramFault → Deck → ℕ → Option (L
 PrintsRun (Ok status) deck budget old new =
     (log : List LogStep) × (s : State) × IsRun deck.image.memory deck.start (asks_after deck) deck.free budget log s
     × (status ≡ status_of s.fault s.halt) × Appends old new (dump_text s (entries_of log) deck.shows)
-PrintsRun (Err (faults.Refused refusals.Write)) deck budget old new =
+PrintsRun (Err faults.Write) deck budget old new =
     (log : List LogStep) × (s : State) × IsRun deck.image.memory deck.start (asks_after deck) deck.free budget log s
     × WritesFront old new (dump_text s (entries_of log) deck.shows)
-PrintsRun (Err (faults.Refused refusals.OutOfMemory)) deck budget old new = Keeps old new
+PrintsRun (Err faults.OutOfMemory) deck budget old new = Keeps old new
 PrintsRun (Err faults.Stuck) deck budget old new = Keeps old new
 PrintsRun other deck budget old new = ⊥
 
 -- the result of reading a deck and running it, where `rest` are the bytes left unread
 abbrev pub Runs : Result Status ProgramFault → Reading → ℕ → List ℕ → Option (List ℕ) → Option (List ℕ) → Type 0
-Runs (Err (faults.Refused (refusals.Deck m fault))) reading budget rest old new = (reading ≡ Bad m fault rest) × Keeps old new
-Runs (Err (faults.Refused refusals.Read)) reading budget rest old new = Keeps old new
-Runs (Err (faults.Refused refusals.OutOfMemory)) reading budget rest old new = Keeps old new
+Runs (Err (faults.Deck m fault)) reading budget rest old new = (reading ≡ Bad m fault rest) × Keeps old new
+Runs (Err faults.Read) reading budget rest old new = Keeps old new
+Runs (Err faults.OutOfMemory) reading budget rest old new = Keeps old new
 Runs result (Good deck n after) budget rest old new = (rest ≡ after) × PrintsRun result deck budget old new
 Runs result (Bad n fault after) budget rest old new = ⊥
 
@@ -77,10 +76,10 @@ EndsReplayFollowing result reading rest old new =
 
 -- whether the program ends because a read failed
 abbrev pub is_read_fault : Result Status ProgramFault → Bool
-is_read_fault (Err (faults.Refused refusals.Read)) = true
+is_read_fault (Err faults.Read) = true
 is_read_fault other = false
 
 -- whether the program ends because a write failed
 abbrev pub is_write_fault : Result Status ProgramFault → Bool
-is_write_fault (Err (faults.Refused refusals.Write)) = true
+is_write_fault (Err faults.Write) = true
 is_write_fault other = false

@@ -5,7 +5,6 @@ ghost use Rattle.deck_run.specs.Running.{PrintsRun, Runs, EndsReplay, EndsReplay
 ghost use Rattle.deck_run.specs.Running.{is_read_fault, is_write_fault, replay_end};
 
 use super::running::run;
-use instruction_table::Refusal;
 use job_deck::{
     Deck, Input, LineBuffer, Output, dump_to, read_deck_from, replay_following_to, replay_to,
 };
@@ -38,7 +37,7 @@ fn print_run<T: Threads + Wait + Clock + Sync, O: Output>(
     let snapshot = run(rt, alloc, deck, budget)?;
     match dump_to(output, snapshot.state(), snapshot.log(), deck) {
         Ok(()) => Ok(end_status(snapshot.state())),
-        Err(_) => Err(ProgramFault::Refused(Refusal::Write)),
+        Err(_) => Err(ProgramFault::Write),
     }
 }
 

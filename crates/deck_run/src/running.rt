@@ -1,7 +1,7 @@
 //! Runs a deck with threads: a worker for each unit, one for memory, and this thread, which issues.
 ghost use Rattle.std.specs.Prelude.{◌≡◌, MatchResult, IfOk};
 ghost use Rattle.instructions.specs.declared.refusal.Refusal.TheVariants.{OutOfMemory};
-ghost use Rattle.operator_terms.specs.declared.fault.ProgramFault.TheVariants.{Refused};
+ghost use Rattle.operator_terms.specs.declared.fault.ProgramFault.TheVariants as faults;
 ghost use Rattle.program_order.specs.Processor.{boot_processor};
 ghost use Rattle.sequential_job.specs.Running.{asks_after};
 ghost use Rattle.sequential_run.specs.Run.{IsRun};
@@ -70,11 +70,11 @@ fn open_gates() -> Gates<Open> {
 /// The fault of a run that ended with this refusal: `OutOfMemory` for lack of memory, `Stuck` for any other refusal.
 fn fault_of_run(refusal: &Refusal) -> ProgramFault
     ensures ends { EndsNoRun result }
-    ensures memory { refusal.now ≡ OutOfMemory → result ≡ Refused OutOfMemory }
-    ensures stuck { result ≡ Refused OutOfMemory → refusal.now ≡ OutOfMemory }
+    ensures memory { refusal.now ≡ OutOfMemory → result ≡ faults.OutOfMemory }
+    ensures stuck { result ≡ faults.OutOfMemory → refusal.now ≡ OutOfMemory }
 {
     match refusal {
-        Refusal::OutOfMemory => ProgramFault::Refused(Refusal::OutOfMemory),
+        Refusal::OutOfMemory => ProgramFault::OutOfMemory,
         _ => ProgramFault::Stuck,
     }
 }
@@ -98,7 +98,7 @@ pub fn run<T: Threads + Wait + Clock + Sync>(
     ensures budget { IfOk result (λ snapshot. snapshot.budget ≡ budget) }
 {
     let Ok((machine, orders)) = prepared(alloc, deck, budget) else {
-        return Err(ProgramFault::Refused(Refusal::OutOfMemory));
+        return Err(ProgramFault::OutOfMemory);
     };
     match run_threads(rt, alloc, machine, &orders, open_gates()) {
         Ok(ended) => Ok(ended.snapshot),

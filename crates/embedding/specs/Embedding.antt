@@ -21,7 +21,7 @@ use Rattle.embedding.specs.declared.outcome.Outcome.{Outcome}
 -- the fault of a command that ends at this refusal. Commands write to memory here, so a failed write means that memory
 -- ran out
 abbrev pub fault_in_memory : Refusal → ProgramFault
-fault_in_memory refusals.Write = faults.Refused refusals.OutOfMemory
+fault_in_memory refusals.Write = faults.OutOfMemory
 fault_in_memory other = fault_of other
 
 -- the exit status of a command with this end

@@ -108,7 +108,7 @@ HasBooted input budget outcome new =
 -- the end of a call that writes to memory, where a failed write means that memory ran out
 abbrev pub written_end : Result (Unit {0}) WriteFailed → Result Status ProgramFault
 written_end (Ok x) = Ok Stopped
-written_end (Err failed) = Err (faults.Refused refusals.OutOfMemory)
+written_end (Err failed) = Err faults.OutOfMemory
 
 -- a call copies as much of this text as fits, or of a prefix of it if memory runs out
 abbrev pub HandsOverText : List ℕ → Outcome → List ℕ → List ℕ → Type 0
@@ -130,9 +130,9 @@ RefusesLine fault b c outcome old new = (c ≡ b) × HandsOver outcome (Err faul
 -- so are `end` and `drain`, which say no event
 abbrev pub DoesLine : ScheduleLine → Booted → Booted → Outcome → List ℕ → List ℕ → Type 0
 DoesLine (Makes e) b c outcome old new = MakesEvent e [] b c outcome old new
-DoesLine Ends b c outcome old new = RefusesLine (faults.Refused (refusals.Deck 1 line_faults.Unknown)) b c outcome old new
-DoesLine Drains b c outcome old new = RefusesLine (faults.Refused (refusals.Deck 1 line_faults.Unknown)) b c outcome old new
-DoesLine (Faulty fault) b c outcome old new = RefusesLine (faults.Refused (refusals.Deck 1 fault)) b c outcome old new
+DoesLine Ends b c outcome old new = RefusesLine (faults.Deck 1 line_faults.Unknown) b c outcome old new
+DoesLine Drains b c outcome old new = RefusesLine (faults.Deck 1 line_faults.Unknown) b c outcome old new
+DoesLine (Faulty fault) b c outcome old new = RefusesLine (faults.Deck 1 fault) b c outcome old new
 
 -- the meaning of a text as the only line of a schedule
 abbrev pub text_says : List ℕ → ScheduleLine
@@ -169,10 +169,10 @@ pub record IsDrainedBy (b c : Booted) (count : ℕ) : Type 0 where
 abbrev pub JudgesLine : ScheduleLine → Booted → Outcome → List ℕ → List ℕ → Type 0
 JudgesLine (Makes e) b outcome old new = HandsOverText (judgement_text b.machine e) outcome old new
 JudgesLine Ends b outcome old new = HandsOver outcome
-    (Err (faults.Refused (refusals.Deck 1 line_faults.Unknown))) [] old new
+    (Err (faults.Deck 1 line_faults.Unknown)) [] old new
 JudgesLine Drains b outcome old new = HandsOver outcome
-    (Err (faults.Refused (refusals.Deck 1 line_faults.Unknown))) [] old new
-JudgesLine (Faulty fault) b outcome old new = HandsOver outcome (Err (faults.Refused (refusals.Deck 1 fault))) [] old new
+    (Err (faults.Deck 1 line_faults.Unknown)) [] old new
+JudgesLine (Faulty fault) b outcome old new = HandsOver outcome (Err (faults.Deck 1 fault)) [] old new
 
 -- the same for the text of a line
 abbrev pub JudgesText : List ℕ → Booted → Outcome → List ℕ → List ℕ → Type 0
@@ -183,7 +183,7 @@ JudgesText text b outcome old new = JudgesLine (text_says text) b outcome old ne
 abbrev pub DumpsText : Booted → Outcome → List ℕ → List ℕ → Type 0
 DumpsText b outcome old new =
     ((all : List ℕ) × IsDump b.machine b.deck.shows all × HandsOverText all outcome old new)
-    ⊎ HandsOver outcome (Err (faults.Refused refusals.OutOfMemory)) [] old new
+    ⊎ HandsOver outcome (Err faults.OutOfMemory) [] old new
 
 -- the outcome of a call that dumps a machine, and the bytes that it copies
 abbrev pub IsDumped : Booted → Outcome → List ℕ → List ℕ → Type 0

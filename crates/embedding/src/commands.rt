@@ -22,7 +22,7 @@ pub fn hand_over_refusal(
     ensures { HandsOver result (Err (fault_in_memory refusal)) text.now output.old output.new }
 {
     let fault = match refusal {
-        Refusal::Write => ProgramFault::Refused(Refusal::OutOfMemory),
+        Refusal::Write => ProgramFault::OutOfMemory,
         other => ProgramFault::from(other),
     };
     hand_over(Err(fault), text, output, line)

@@ -6,7 +6,6 @@ ghost use Rattle.embedding.specs.Keeping.{HandsOverText, IsDumped, IsLogged, aft
 use crate::booted::Booted;
 use crate::outcome::{NOT_DRAINED, Outcome, hand_over, silent};
 use crate::stepping::written_end;
-use instruction_table::Refusal;
 use job_deck::{CheckedWriter, Deck, dump_to, put_log};
 use machine::Snapshot;
 use operator_terms::ProgramFault;
@@ -40,12 +39,7 @@ pub fn show_dump(alloc: Global, booted: &Booted, output: &mut [u8], line: &mut [
     }
     match booted.machine.snapshot() {
         Ok(snapshot) => show_snapshot(alloc, &snapshot, &booted.deck, output, line),
-        Err(_) => hand_over(
-            Err(ProgramFault::Refused(Refusal::OutOfMemory)),
-            &[],
-            output,
-            line,
-        ),
+        Err(_) => hand_over(Err(ProgramFault::OutOfMemory), &[], output, line),
     }
 }
 

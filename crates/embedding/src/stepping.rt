@@ -6,14 +6,13 @@ ghost use Rattle.contents_text.specs.Events.{event_line};
 ghost use Rattle.embedding.specs.Keeping.{text_says, written_end};
 ghost use Rattle.job_deck.specs.AnswerText.{answer_line};
 ghost use Rattle.embedding.specs.Embedding.{HandsOver};
-ghost use Rattle.instructions.specs.declared.refusal.Refusal.TheVariants.{Deck as RefusedLine};
-ghost use Rattle.operator_terms.specs.declared.fault.ProgramFault.TheVariants.{Refused};
+ghost use Rattle.operator_terms.specs.declared.fault.ProgramFault.TheVariants.{Deck as RefusedLine};
 
 use crate::booted::Booted;
 use crate::outcome::{Outcome, hand_over};
 use arrayvec::ArrayVec;
 use contents_text::put_event;
-use instruction_table::{DeckFault, Refusal};
+use instruction_table::DeckFault;
 use job_deck::{CheckedWriter, ScheduleLine, WriteFailed, parse_schedule_line, put_answer};
 use machine::{Answer, Event, Machine};
 use operator_terms::{ProgramFault, Status};
@@ -30,7 +29,7 @@ pub fn written_end(written: Result<(), WriteFailed>) -> Result<Status, ProgramFa
 {
     match written {
         Ok(()) => Ok(Status::Stopped),
-        Err(_) => Err(ProgramFault::Refused(Refusal::OutOfMemory)),
+        Err(_) => Err(ProgramFault::OutOfMemory),
     }
 }
 
@@ -77,10 +76,14 @@ pub fn line_said(text: &[u8]) -> ScheduleLine
 
 /// Refuses a line because of a fault.
 pub fn refuse_line(fault: DeckFault, output: &mut [u8], line: &mut [u8]) -> Outcome
-    ensures { HandsOver result (Err (Refused (RefusedLine 1 fault))) [] output.old output.new }
+    ensures { HandsOver result (Err (RefusedLine 1 fault)) [] output.old output.new }
 {
-    let refusal = Refusal::Deck { line: 1, fault };
-    hand_over(Err(ProgramFault::Refused(refusal)), &[], output, line)
+    hand_over(
+        Err(ProgramFault::Deck { line: 1, fault }),
+        &[],
+        output,
+        line,
+    )
 }
 
 /// Makes or refuses the event that a schedule line says.

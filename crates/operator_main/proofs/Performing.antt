@@ -27,7 +27,7 @@ unbegun (Good whole n after) budget old = inl (le_refl _, Keeps-refl old)
 unbegun (Bad n fault after) budget old = Keeps-refl old
 
 unbegun_there : (request : Request) (xs : List ℕ) (old : Option (List ℕ))
-    → CarriesOut request (Err (faults.Refused refusals.OutOfMemory)) xs (after_deck (deck xs)) old old
+    → CarriesOut request (Err faults.OutOfMemory) xs (after_deck (deck xs)) old old
 unbegun_there (requests.Run budget) xs old = Keeps-refl old
 unbegun_there (requests.RunSequentially budget) xs old = (Err refusals.OutOfMemory, Keeps-refl old, refl)
 unbegun_there (requests.Replay log) xs old = (Err refusals.OutOfMemory, Keeps-refl old, refl)
@@ -37,13 +37,13 @@ unbegun_there requests.List xs old = (Err refusals.OutOfMemory, Keeps-refl old, 
 
 left_there : (request : Request) (input old : Option (List ℕ))
     → Moves input (option_map (λ xs. after_deck (deck xs)) input)
-    (λ xs ys. CarriesOut request (Err (faults.Refused refusals.OutOfMemory)) xs ys old old)
+    (λ xs ys. CarriesOut request (Err faults.OutOfMemory) xs ys old old)
 left_there request None old = tt
 left_there request (Some xs) old = unbegun_there request xs old
 
 -- there is no memory for the buffer
 pub performed_nothing : (request : Request) (input old : Option (List ℕ))
-    → Performed request (Err (faults.Refused refusals.OutOfMemory)) input old old
+    → Performed request (Err faults.OutOfMemory) input old old
 performed_nothing request input old =
     record {
       rest = option_map (λ xs. after_deck (deck xs)) input;

@@ -3,7 +3,6 @@ use Rattle.std.proofs.Common.{◌≡◌, ◌≢◌, ◌⊎◌, ℕ, List, Option
 use Rattle.std.proofs.KnownBytes.{Keeps-refl}
 use Rattle.clap.specs.declared.error.kind.ErrorKind.{ErrorKind}
 use Rattle.clap.specs.declared.error.kind.ErrorKind.TheVariants as kinds
-use Rattle.instructions.specs.declared.refusal.Refusal.TheVariants as refusals
 use Rattle.operator_terms.specs.declared.fault.ProgramFault.{ProgramFault}
 use Rattle.operator_terms.specs.declared.fault.ProgramFault.TheVariants as faults
 use Rattle.operator_terms.specs.declared.status.Status.{Status}
@@ -19,7 +18,7 @@ words_refused other old a b c = (refl, Keeps-refl old)
 
 pub text_printed : (kind : ErrorKind) (end : Result Status ProgramFault) (old new : Option (List ℕ))
     → kind ≢ kinds.OutOfMemory → ¬ ((kind ≢ kinds.DisplayHelp) × (kind ≢ kinds.DisplayVersion))
-    → (end ≡ Ok Stopped) ⊎ (end ≡ Err (faults.Refused refusals.Write)) → EndsUnasked kind end old new
+    → (end ≡ Ok Stopped) ⊎ (end ≡ Err faults.Write) → EndsUnasked kind end old new
 text_printed kinds.OutOfMemory end old new a b h = absurd (a refl)
 text_printed kinds.DisplayHelp end old new a b h = h
 text_printed kinds.DisplayVersion end old new a b h = h

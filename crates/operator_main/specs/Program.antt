@@ -4,7 +4,6 @@ use Rattle.std.specs.Prelude.{◌≡◌, ◌⊎◌, ◌≤◌, ℕ, Bool, true, 
 use Rattle.std.specs.Io.KnownBytes.{Keeps, Appends}
 use Rattle.clap.specs.declared.error.kind.ErrorKind.{ErrorKind}
 use Rattle.clap.specs.declared.error.kind.ErrorKind.TheVariants as kinds
-use Rattle.instructions.specs.declared.refusal.Refusal.TheVariants as refusals
 use Rattle.operator_terms.specs.declared.fault.ProgramFault.{ProgramFault}
 use Rattle.operator_terms.specs.declared.fault.ProgramFault.TheVariants as faults
 use Rattle.operator_terms.specs.declared.status.Status.{Status}
@@ -23,9 +22,9 @@ exit_code (Err fault) = code_of (fault_status fault)
 -- or `E23` if a write of that text failed; which bytes are printed isn't said. At any other kind the words are refused,
 -- and nothing is printed
 abbrev pub EndsUnasked : ErrorKind → Result Status ProgramFault → Option (List ℕ) → Option (List ℕ) → Type 0
-EndsUnasked kinds.OutOfMemory end old new = (end ≡ Err (faults.Refused refusals.OutOfMemory)) × Keeps old new
-EndsUnasked kinds.DisplayHelp end old new = (end ≡ Ok Stopped) ⊎ (end ≡ Err (faults.Refused refusals.Write))
-EndsUnasked kinds.DisplayVersion end old new = (end ≡ Ok Stopped) ⊎ (end ≡ Err (faults.Refused refusals.Write))
+EndsUnasked kinds.OutOfMemory end old new = (end ≡ Err faults.OutOfMemory) × Keeps old new
+EndsUnasked kinds.DisplayHelp end old new = (end ≡ Ok Stopped) ⊎ (end ≡ Err faults.Write)
+EndsUnasked kinds.DisplayVersion end old new = (end ≡ Ok Stopped) ⊎ (end ≡ Err faults.Write)
 EndsUnasked other end old new = (end ≡ Ok Usage) × Keeps old new
 
 -- the length of the longest text for a fault: one line, or two if the position of the fault is shown

@@ -1,6 +1,6 @@
 ghost use Rattle.std.specs.Prelude.{Some};
 
-use super::program::{program, program_at_terminal};
+use super::program::{Streams, program};
 use super::test_program::{TWO_ADDS, TWO_ADDS_DUMP, words};
 use std::io;
 use std::io::{ErrorKind, Read, Write};
@@ -66,28 +66,25 @@ fn failing_reads(rt: HostRuntime) -> Result<(), Fail> {
     let words = words(rt.alloc(), ["run"].as_slice())?;
     let reads = TWO_ADDS.len().div_ceil(7) as u64;
     for fails_from in 1..reads + 2 {
-        let mut input = Failing {
-            bytes: TWO_ADDS,
-            turn: 0,
-            fails_from,
+        let mut streams = Streams {
+            input: Failing {
+                bytes: TWO_ADDS,
+                turn: 0,
+                fails_from,
+            },
+            output: Vec::new(rt.alloc()),
+            faults: Vec::new(rt.alloc()),
+            is_at_terminal: false,
         };
-        let mut output = Vec::new(rt.alloc());
-        let mut faults = Vec::new(rt.alloc());
-        let answer = program(
-            &rt,
-            rt.alloc(),
-            words.as_slice(),
-            &mut input,
-            &mut output,
-            &mut faults,
-        );
+        let answer = program(&rt, rt.alloc(), words.as_slice(), &mut streams);
+        let (output, faults) = (streams.output.as_slice(), streams.faults.as_slice());
         if fails_from <= reads {
-            assert_eq!(rt; faults.as_slice(), b"cdc6600: E22 read failed\n".as_slice());
+            assert_eq!(rt; faults, b"cdc6600: E22 read failed\n".as_slice());
             assert!(rt; output.is_empty());
             assert_eq!(rt; answer, 7);
         } else {
             assert!(rt; faults.is_empty());
-            assert_eq!(rt; output.as_slice(), TWO_ADDS_DUMP);
+            assert_eq!(rt; output, TWO_ADDS_DUMP);
             assert_eq!(rt; answer, 0);
         }
     }
@@ -99,28 +96,22 @@ fn failing_writes(rt: HostRuntime) -> Result<(), Fail> {
     let words = words(rt.alloc(), ["run"].as_slice())?;
     let writes = TWO_ADDS_DUMP.len() as u64;
     for fails_from in [1, 2, 44, 45, writes - 1, writes, writes + 1] {
-        let mut input = TWO_ADDS;
-        let mut output = Dripping {
-            bytes: Vec::new(rt.alloc()),
-            turn: 0,
-            fails_from,
+        let mut streams = Streams {
+            input: TWO_ADDS,
+            output: Dripping {
+                bytes: Vec::new(rt.alloc()),
+                turn: 0,
+                fails_from,
+            },
+            faults: Vec::new(rt.alloc()),
+            is_at_terminal: false,
         };
-        let mut faults = Vec::new(rt.alloc());
-        let answer = program(
-            &rt,
-            rt.alloc(),
-            words.as_slice(),
-            &mut input,
-            &mut output,
-            &mut faults,
-        );
-        assert_eq!(rt; output.bytes.len() as u64, fails_from.saturating_sub(1));
-        assert!(rt; TWO_ADDS_DUMP.starts_with(output.bytes.as_slice()));
+        let answer = program(&rt, rt.alloc(), words.as_slice(), &mut streams);
+        let (output, faults) = (streams.output.bytes.as_slice(), streams.faults.as_slice());
+        assert_eq!(rt; output.len() as u64, fails_from.saturating_sub(1));
+        assert!(rt; TWO_ADDS_DUMP.starts_with(output));
         if fails_from <= writes {
-            assert_eq!(rt;
-                faults.as_slice(),
-                b"cdc6600: E23 write failed\n".as_slice()
-            );
+            assert_eq!(rt; faults, b"cdc6600: E23 write failed\n".as_slice());
             assert_eq!(rt; answer, 7);
         } else {
             assert!(rt; faults.is_empty());
@@ -139,25 +130,21 @@ fn failing_faults(rt: HostRuntime) -> Result<(), Fail> {
         ("--help", b"".as_slice(), 7),
     ] {
         let words = words(rt.alloc(), [text].as_slice())?;
-        let mut input = input;
-        let mut output = Dripping {
-            bytes: Vec::new(rt.alloc()),
-            turn: 0,
-            fails_from: 1,
+        let mut streams = Streams {
+            input,
+            output: Dripping {
+                bytes: Vec::new(rt.alloc()),
+                turn: 0,
+                fails_from: 1,
+            },
+            faults: Dripping {
+                bytes: Vec::new(rt.alloc()),
+                turn: 0,
+                fails_from: 1,
+            },
+            is_at_terminal: false,
         };
-        let mut faults = Dripping {
-            bytes: Vec::new(rt.alloc()),
-            turn: 0,
-            fails_from: 1,
-        };
-        let answer = program(
-            &rt,
-            rt.alloc(),
-            words.as_slice(),
-            &mut input,
-            &mut output,
-            &mut faults,
-        );
+        let answer = program(&rt, rt.alloc(), words.as_slice(), &mut streams);
         assert_eq!(rt; answer, status);
     }
     Ok(())
@@ -213,22 +200,22 @@ const TOLD: [(&[u8], &[u8], &[u8]); 4] = [
 /// Expects that the program tells this text in one call, at a terminal or elsewhere.
 fn expect_told(
     rt: &(impl Abort + AllocGlobal + Threads + Wait + Clock + Sync),
-    mut deck: &[u8],
+    deck: &[u8],
     told: &[u8],
     is_at_terminal: bool,
 ) -> Result<(), Fail> {
     let words = words(rt.alloc(), ["list"].as_slice())?;
-    let mut output = Vec::new(rt.alloc());
-    let mut faults = Counting {
-        bytes: Vec::new(rt.alloc()),
-        calls: 0,
+    let mut streams = Streams {
+        input: deck,
+        output: Vec::new(rt.alloc()),
+        faults: Counting {
+            bytes: Vec::new(rt.alloc()),
+            calls: 0,
+        },
+        is_at_terminal,
     };
-    let (alloc, words) = (rt.alloc(), words.as_slice());
-    let answer = if is_at_terminal {
-        program_at_terminal(rt, alloc, words, &mut deck, &mut output, &mut faults)
-    } else {
-        program(rt, alloc, words, &mut deck, &mut output, &mut faults)
-    };
+    let answer = program(rt, rt.alloc(), words.as_slice(), &mut streams);
+    let faults = &streams.faults;
     assert_eq!(rt;
         (answer, faults.bytes.as_slice(), faults.calls),
         (1, told, 1)

@@ -3,10 +3,9 @@
 //!
 //! `main` calls `program::program` with the words of the command line and exits with the status that it returns. The
 //! contract of `program` says what it does with its input, its output and its fault stream, and that the exit status
-//! matches that. It doesn't say which words make which request. If standard error is a terminal, `main` calls
-//! `program_at_terminal` instead, which also shows the position of the fault in a refused line. `main` buffers the
-//! output, so that printing a piece takes no system call. `progress` shows at a terminal that a long run is still
-//! going.
+//! matches that. It doesn't say which words make which request. If standard error is a terminal, the program also shows
+//! the position of the fault in a refused line. `main` buffers the output, so that printing a piece takes no system
+//! call. `progress` shows at a terminal that a long run is still going.
 //!
 //! Its tests call `program`. Their first table is `CASES` in `command_tests`: a call of each command with its whole
 //! output. `device_tests` has readers and writers that fail. Fault lines, and the exit statuses of machines that halt or
@@ -16,15 +15,15 @@
 mod program;
 mod progress;
 
-use instruction_table::Refusal;
 use operator_terms::ProgramFault;
+use program::Streams;
 use std::io::{BufWriter, IsTerminal};
 use std::process::ExitCode;
 use std::sync::atomic::{AtomicU64, Ordering};
 use std::{env, thread};
 
 /// The fault with which the program ends if there is no memory for its arguments or its buffers.
-const NO_MEMORY: ProgramFault = ProgramFault::Refused(Refusal::OutOfMemory);
+const NO_MEMORY: ProgramFault = ProgramFault::OutOfMemory;
 
 fn main(rt: HostRuntime) -> ExitCode {
     let mut stderr = rt.stderr();
@@ -36,7 +35,7 @@ fn main(rt: HostRuntime) -> ExitCode {
     let Ok(words) = words.collect::<Vec<String>>(rt.alloc()) else {
         return ExitCode::from(program::report_fault(&mut stderr, NO_MEMORY));
     };
-    let Ok(mut output) = BufWriter::new(rt.alloc(), rt.stdout()) else {
+    let Ok(output) = BufWriter::new(rt.alloc(), rt.stdout()) else {
         return ExitCode::from(program::report_fault(&mut stderr, NO_MEMORY));
     };
     let is_at_terminal = stderr.is_terminal();
@@ -51,12 +50,13 @@ fn main(rt: HostRuntime) -> ExitCode {
             let (runtime, ended) = (&rt, &ended);
             let _ = scope.spawn(move || progress::show(runtime, &mut terminal, ended));
         }
-        let (alloc, words, input) = (rt.alloc(), words.as_slice(), &mut rt.stdin());
-        let status = if is_at_terminal {
-            program::program_at_terminal(&rt, alloc, words, input, &mut output, &mut stderr)
-        } else {
-            program::program(&rt, alloc, words, input, &mut output, &mut stderr)
+        let mut streams = Streams {
+            input: rt.stdin(),
+            output,
+            faults: stderr,
+            is_at_terminal,
         };
+        let status = program::program(&rt, rt.alloc(), words.as_slice(), &mut streams);
         ended.store(1, Ordering::SeqCst);
         ended.wake_all();
         ExitCode::from(status)

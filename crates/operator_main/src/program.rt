@@ -3,8 +3,7 @@ ghost use Rattle.std.specs.IoError.{error_kind};
 ghost use Rattle.clap.specs.Values.{kind_of};
 ghost use Rattle.device_text.specs.Device.{Moves, NothingWaits};
 ghost use Rattle.operator_terms.specs.declared.fault.ProgramFault.{ProgramFault};
-ghost use Rattle.operator_terms.specs.declared.fault.ProgramFault.TheVariants.{Refused};
-ghost use Rattle.instructions.specs.declared.refusal.Refusal.TheVariants.{OutOfMemory};
+ghost use Rattle.operator_terms.specs.declared.fault.ProgramFault.TheVariants.{OutOfMemory};
 ghost use Rattle.operator_terms.specs.declared.status.Status.{Status};
 ghost use Rattle.operator_terms.specs.declared.status.Status.TheVariants.{Usage};
 ghost use Rattle.deck_run.specs.Running.{is_write_fault};
@@ -16,7 +15,6 @@ use clap::Error;
 use clap::error::ErrorKind;
 use command_line::{Request, read_arguments};
 use deck_run::{replay_following_log, replay_log, run_deck, run_deck_sequentially};
-use instruction_table::Refusal;
 use job_deck::{CheckedBufReader, CheckedWriter, Input, LineBuffer, Output, events_to, list_to};
 use operator_terms::{ProgramFault, Status};
 use refused_line::find;
@@ -33,6 +31,21 @@ const ONE_LINE: usize = 47;
 /// The length of the longest fault line that is followed by the line of a position.
 const WITH_POSITION: usize = 237;
 
+/// The streams of the program.
+#[derive(Drop)]
+pub struct Streams<R, W, F> {
+    /// The input, which begins with a deck unless the words make no request.
+    pub input: R,
+    /// The output. It is written piece by piece, so it should be buffered. It is flushed after each answer of a
+    /// session, and at the end if no fault occurred.
+    pub output: W,
+    /// The fault stream. A failed write to it doesn't change the exit status.
+    pub faults: F,
+    /// Whether the fault stream is a terminal. If so, and a line is refused, a second line after the fault line has the
+    /// position of the fault.
+    pub is_at_terminal: bool,
+}
+
 /// The fault line.
 fn fault_line(fault: &ProgramFault) -> ArrayVec<u8, ONE_LINE> {
     let mut text = ArrayVec::new();
@@ -44,7 +57,7 @@ fn fault_line(fault: &ProgramFault) -> ArrayVec<u8, ONE_LINE> {
 fn fault_line_with_position(fault: &ProgramFault, line: &[u8]) -> ArrayVec<u8, WITH_POSITION> {
     let mut text = ArrayVec::new();
     let _ = writeln!(text, "cdc6600: {fault}");
-    if let ProgramFault::Refused(Refusal::Deck { fault, .. }) = fault
+    if let ProgramFault::Deck { fault, .. } = fault
         && let Some(position) = find(*fault, line)
     {
         let _ = writeln!(text, "cdc6600: {position}");
@@ -95,11 +108,11 @@ fn report<F: Write>(faults: &mut F, fault: ProgramFault, line: &[u8], with_posit
 
 /// Reports that the arguments can't be read: one isn't UTF-8, or memory ran out. Returns the exit status.
 pub fn report_bad_argument<F: Write>(faults: &mut F, error: io::Error) -> u8
-    ensures memory { error_kind error ≡ IoErrorKind.OutOfMemory → result ≡ exit_code (Err (Refused OutOfMemory)) }
+    ensures memory { error_kind error ≡ IoErrorKind.OutOfMemory → result ≡ exit_code (Err OutOfMemory) }
     ensures refused { error_kind error ≢ IoErrorKind.OutOfMemory → result ≡ exit_code (Ok Usage) }
 {
     if error.kind() == IoErrorKind::OutOfMemory {
-        return report_fault(faults, ProgramFault::Refused(Refusal::OutOfMemory));
+        return report_fault(faults, ProgramFault::OutOfMemory);
     }
     let _ = faults.write_all(b"error: an argument is no text\n");
     Status::Usage.code()
@@ -122,7 +135,7 @@ fn report_usage<W: Write, F: Write>(output: &mut W, faults: &mut F, error: Error
         (F.contents faults.old) (F.contents faults.new) }
 {
     if error.kind() == ErrorKind::OutOfMemory {
-        return report_fault(faults, ProgramFault::Refused(Refusal::OutOfMemory));
+        return report_fault(faults, ProgramFault::OutOfMemory);
     }
     if error.use_stderr() {
         let _ = write!(faults, "{error}");
@@ -130,7 +143,7 @@ fn report_usage<W: Write, F: Write>(output: &mut W, faults: &mut F, error: Error
     }
     match put_text(output, &error) {
         Ok(()) => Status::Stopped.code(),
-        Err(_) => report_fault(faults, ProgramFault::Refused(Refusal::Write)),
+        Err(_) => report_fault(faults, ProgramFault::Write),
     }
 }
 
@@ -171,85 +184,48 @@ fn carry_out<T: Threads + Wait + Clock + Sync, I: Input, O: Output>(
     }
 }
 
-/// Carries out a request on an input and reports its fault, with its position or without. A buffered reader saves a
-/// system call for each byte. Returns the exit status.
+/// Carries out a request on the streams and reports its fault. A buffered reader saves a system call for each byte.
+/// Returns the exit status.
 fn perform<T: Threads + Wait + Clock + Sync, R: Read, W: Write, F: Write>(
     rt: &T,
     alloc: Global,
     request: &Request<'_>,
-    input: &mut R,
-    output: &mut W,
-    faults: &mut F,
-    with_position: bool,
+    streams: &mut Streams<R, W, F>,
 ) -> u8
-    ensures { EndsWith with_position result
-        (λ end. Performed request.now end (R.remaining input.old) (W.contents output.old) (W.contents output.new))
-        (F.contents faults.old) (F.contents faults.new) }
+    ensures { EndsWith streams.old.is_at_terminal result
+        (λ end. Performed request.now end (R.remaining streams.old.input) (W.contents streams.old.output)
+        (W.contents streams.new.output)) (F.contents streams.old.faults) (F.contents streams.new.faults) }
 {
-    let Ok(mut reader) = BufReader::new(alloc, &mut *input) else {
-        let fault = ProgramFault::Refused(Refusal::OutOfMemory);
-        return report(faults, fault, b"", with_position);
+    let is_at_terminal = streams.is_at_terminal;
+    let faults = &mut streams.faults;
+    let Ok(mut reader) = BufReader::new(alloc, &mut streams.input) else {
+        return report(faults, ProgramFault::OutOfMemory, b"", is_at_terminal);
     };
     let mut input = CheckedBufReader::new(&mut reader);
-    let mut output = CheckedWriter::new(&mut *output);
+    let mut output = CheckedWriter::new(&mut streams.output);
     let mut line = LineBuffer::new();
     let ended = carry_out(rt, alloc, request, &mut input, &mut output, &mut line);
     // The proof reads what the output holds from this use, which has no other effect.
     let _ = &*output.into_inner();
     match ended {
         Ok(status) => status.code(),
-        Err(fault) => report(faults, fault, line.as_slice(), with_position),
+        Err(fault) => report(faults, fault, line.as_slice(), is_at_terminal),
     }
 }
 
-/// Runs the program, and reports a fault with its position or without. Returns the exit status.
-fn answer<T: Threads + Wait + Clock + Sync, R: Read, W: Write, F: Write>(
-    rt: &T,
-    alloc: Global,
-    words: &[String],
-    input: &mut R,
-    output: &mut W,
-    faults: &mut F,
-    with_position: bool,
-) -> u8
-    ensures { ExitsAsItDoes with_position result (R.remaining input.old) (R.remaining input.new)
-        (W.contents output.old) (W.contents output.new) (F.contents faults.old) (F.contents faults.new) }
-{
-    match read_arguments(alloc, words) {
-        Ok(request) => perform(rt, alloc, &request, input, output, faults, with_position),
-        Err(error) => report_usage(output, faults, error),
-    }
-}
-
-/// Runs the program with these arguments, of which the program's name is none, and its input, output and fault stream.
-/// Returns the exit status, which a failed write to the fault stream doesn't change. The output is written piece by
-/// piece, so it should be buffered. It is flushed after each answer of a session, and at the end if no fault occurred.
+/// Runs the program with these arguments, which don't include the program's name. Returns the exit status.
 pub fn program<T: Threads + Wait + Clock + Sync, R: Read, W: Write, F: Write>(
     rt: &T,
     alloc: Global,
     words: &[String],
-    input: &mut R,
-    output: &mut W,
-    faults: &mut F,
+    streams: &mut Streams<R, W, F>,
 ) -> u8
-    ensures { ExitsAsItDoes false result (R.remaining input.old) (R.remaining input.new)
-        (W.contents output.old) (W.contents output.new) (F.contents faults.old) (F.contents faults.new) }
+    ensures { ExitsAsItDoes streams.old.is_at_terminal result (R.remaining streams.old.input)
+        (R.remaining streams.new.input) (W.contents streams.old.output) (W.contents streams.new.output)
+        (F.contents streams.old.faults) (F.contents streams.new.faults) }
 {
-    answer(rt, alloc, words, input, output, faults, false)
-}
-
-/// Runs the program as `program` does, for a reader at a terminal: if a line was refused, a second line after the fault
-/// line has the position of the fault.
-pub fn program_at_terminal<T: Threads + Wait + Clock + Sync, R: Read, W: Write, F: Write>(
-    rt: &T,
-    alloc: Global,
-    words: &[String],
-    input: &mut R,
-    output: &mut W,
-    faults: &mut F,
-) -> u8
-    ensures { ExitsAsItDoes true result (R.remaining input.old) (R.remaining input.new)
-        (W.contents output.old) (W.contents output.new) (F.contents faults.old) (F.contents faults.new) }
-{
-    answer(rt, alloc, words, input, output, faults, true)
+    match read_arguments(alloc, words) {
+        Ok(request) => perform(rt, alloc, &request, streams),
+        Err(error) => report_usage(&mut streams.output, &mut streams.faults, error),
+    }
 }

@@ -1,6 +1,6 @@
 //! Fixtures shared by the tests: calls of the program, and a deck.
 
-use super::program::program;
+use super::program::{Streams, program};
 use std::alloc::{AllocError, Global};
 use std::io::Read;
 use std::process::Abort;
@@ -22,20 +22,17 @@ pub fn words(alloc: Global, texts: &[&str]) -> Result<Vec<String>, AllocError> {
 pub fn called<R: Read>(
     rt: &(impl AllocGlobal + Threads + Wait + Clock + Sync),
     texts: &[&str],
-    input: &mut R,
+    input: R,
 ) -> Result<(u8, Vec<u8>, Vec<u8>), AllocError> {
     let words = words(rt.alloc(), texts)?;
-    let mut output = Vec::new(rt.alloc());
-    let mut faults = Vec::new(rt.alloc());
-    let status = program(
-        rt,
-        rt.alloc(),
-        words.as_slice(),
+    let mut streams = Streams {
         input,
-        &mut output,
-        &mut faults,
-    );
-    Ok((status, output, faults))
+        output: Vec::new(rt.alloc()),
+        faults: Vec::new(rt.alloc()),
+        is_at_terminal: false,
+    };
+    let status = program(rt, rt.alloc(), words.as_slice(), &mut streams);
+    Ok((status, streams.output, streams.faults))
 }
 
 /// A call of the program and its expected end.
@@ -61,7 +58,7 @@ pub fn expect(
 ) -> Result<(), Fail> {
     let mut input = Vec::from_slice(rt.alloc(), case.deck)?;
     input.extend_from_slice(case.rest)?;
-    let (status, printed, told) = called(rt, case.arguments, &mut input.as_slice())?;
+    let (status, printed, told) = called(rt, case.arguments, input.as_slice())?;
     assert_eq!(rt;
         (status, printed.as_slice(), told.as_slice()),
         (case.status, case.printed, case.told),

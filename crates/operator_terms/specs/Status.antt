@@ -34,22 +34,21 @@ code_of Device = 7
 -- the fault with which the program ends at this refusal: `E20`, `E19`, `E27`, `E21`, `E22` or `E23`. The other refusals
 -- never occur
 abbrev pub fault_of : Refusal → ProgramFault
-fault_of (refusals.Deck line fault) = faults.Refused (refusals.Deck line fault)
-fault_of refusals.PackageRange = faults.Refused refusals.PackageRange
-fault_of refusals.PeripheralRange = faults.Refused refusals.PeripheralRange
-fault_of refusals.OutOfMemory = faults.Refused refusals.OutOfMemory
-fault_of refusals.Read = faults.Refused refusals.Read
-fault_of refusals.Write = faults.Refused refusals.Write
+fault_of (refusals.Deck line fault) = faults.Deck line fault
+fault_of refusals.PackageRange = faults.PackageRange
+fault_of refusals.PeripheralRange = faults.PeripheralRange
+fault_of refusals.OutOfMemory = faults.OutOfMemory
+fault_of refusals.Read = faults.Read
+fault_of refusals.Write = faults.Write
 fault_of other = faults.Stuck
 
 -- the status with which the program ends if it prints a fault line
 abbrev pub fault_status : ProgramFault → Status
-fault_status (faults.Refused (refusals.Deck line fault)) = Refused
-fault_status (faults.Refused refusals.PackageRange) = Usage
-fault_status (faults.Refused refusals.PeripheralRange) = Usage
-fault_status (faults.Refused refusals.OutOfMemory) = OutOfMemory
-fault_status (faults.Refused refusals.Read) = Device
-fault_status (faults.Refused refusals.Write) = Device
-fault_status (faults.Refused other) = Running
+fault_status (faults.Deck line fault) = Refused
+fault_status faults.PackageRange = Usage
+fault_status faults.PeripheralRange = Usage
 fault_status faults.BadLog = Usage
+fault_status faults.OutOfMemory = OutOfMemory
+fault_status faults.Read = Device
+fault_status faults.Write = Device
 fault_status faults.Stuck = Running

@@ -1,15 +1,30 @@
 ghost use Rattle.std.specs.Prelude.{◌≡◌};
 
 use crate::status::Status;
-use instruction_table::Refusal;
+use instruction_table::{DeckFault, Refusal};
 use thiserror::Error;
 
-/// Why the program ends without its output.
+/// Why the program ends without its output. `Display` writes the refusal's label and text, or a text of the program's.
 #[derive(Clone, Copy, Debug, Drop, Error, PartialEq, Eq)]
 pub enum ProgramFault {
-    /// The deck, an access of the log, memory or a device was refused.
-    #[error("{0}")]
-    Refused(Refusal),
+    /// A line of the deck or the schedule was refused; lines are numbered from 1.
+    #[error("{label}{line}: {fault}", label = Refusal::Deck {line: *.line, fault: *.fault}.label())]
+    Deck { line: u32, fault: DeckFault },
+    /// The package of an exchange in the log to replay isn't all in memory.
+    #[error("{label}", label = Refusal::PackageRange.label())]
+    PackageRange,
+    /// The address of a peripheral access in the log to replay isn't in memory.
+    #[error("{label}", label = Refusal::PeripheralRange.label())]
+    PeripheralRange,
+    /// Memory ran out.
+    #[error("{label}", label = Refusal::OutOfMemory.label())]
+    OutOfMemory,
+    /// A read failed.
+    #[error("{label}", label = Refusal::Read.label())]
+    Read,
+    /// A write or a flush failed.
+    #[error("{label}", label = Refusal::Write.label())]
+    Write,
     /// The log to replay isn't the text of a log.
     #[error("bad log")]
     BadLog,
@@ -26,14 +41,11 @@ impl ProgramFault {
         ensures { result ≡ code_of (fault_status self.now) }
     {
         let status = match self {
-            ProgramFault::Refused(Refusal::Deck { .. }) => Status::Refused,
-            ProgramFault::Refused(Refusal::PackageRange | Refusal::PeripheralRange) =>
+            ProgramFault::Deck { .. } => Status::Refused,
+            ProgramFault::PackageRange | ProgramFault::PeripheralRange | ProgramFault::BadLog =>
                 Status::Usage,
-            ProgramFault::Refused(Refusal::OutOfMemory) => Status::OutOfMemory,
-            ProgramFault::Refused(Refusal::Read | Refusal::Write) => Status::Device,
-            // `from` makes `Stuck` of every other refusal.
-            ProgramFault::Refused(_) => Status::Running,
-            ProgramFault::BadLog => Status::Usage,
+            ProgramFault::OutOfMemory => Status::OutOfMemory,
+            ProgramFault::Read | ProgramFault::Write => Status::Device,
             ProgramFault::Stuck => Status::Running,
         };
         status as u8
@@ -48,12 +60,12 @@ impl From<Refusal> for ProgramFault {
     fn from(refusal: Refusal) -> ProgramFault {
         // All refusals are listed, so that a new one has to be sorted here.
         match refusal {
-            Refusal::Deck { .. }
-            | Refusal::PackageRange
-            | Refusal::PeripheralRange
-            | Refusal::OutOfMemory
-            | Refusal::Read
-            | Refusal::Write => ProgramFault::Refused(refusal),
+            Refusal::Deck { line, fault } => ProgramFault::Deck { line, fault },
+            Refusal::PackageRange => ProgramFault::PackageRange,
+            Refusal::PeripheralRange => ProgramFault::PeripheralRange,
+            Refusal::OutOfMemory => ProgramFault::OutOfMemory,
+            Refusal::Read => ProgramFault::Read,
+            Refusal::Write => ProgramFault::Write,
             Refusal::Halted(_)
             | Refusal::Faulted
             | Refusal::Budget

@@ -1,6 +1,6 @@
 //! Tests of exit statuses, the texts of faults, and budgets.
 
-use instruction_table::{DeckFault, Digit, Halt, Op, Refusal};
+use instruction_table::{DeckFault, Digit, Halt, Op};
 use operator_terms::{Budget, LARGEST_BUDGET, ProgramFault, end_status};
 use registers::RegisterFile;
 use relocation::{Area, Storage};
@@ -40,7 +40,7 @@ fn statuses(rt: HostRuntime) -> Result<(), Fail> {
     ] {
         assert_eq!(rt; ended_code(rt.alloc(), halt, fault)?, code);
     }
-    assert_eq!(rt; ProgramFault::Refused(Refusal::OutOfMemory).exit_code(), 6);
+    assert_eq!(rt; ProgramFault::OutOfMemory.exit_code(), 6);
     Ok(())
 }
 
@@ -56,18 +56,14 @@ fn expect_text(
 }
 
 /// Faults that aren't faults of a deck, and their texts.
-const FAULT_TEXTS: [(ProgramFault, &str); 5] = [
-    (
-        ProgramFault::Refused(Refusal::PackageRange),
-        "E19 package range",
-    ),
+const FAULT_TEXTS: [(ProgramFault, &str); 7] = [
+    (ProgramFault::PackageRange, "E19 package range"),
+    (ProgramFault::PeripheralRange, "E27 peripheral range"),
     (ProgramFault::BadLog, "bad log"),
-    (
-        ProgramFault::Refused(Refusal::OutOfMemory),
-        "E21 out of memory",
-    ),
-    (ProgramFault::Refused(Refusal::Read), "E22 read failed"),
-    (ProgramFault::Refused(Refusal::Write), "E23 write failed"),
+    (ProgramFault::OutOfMemory, "E21 out of memory"),
+    (ProgramFault::Read, "E22 read failed"),
+    (ProgramFault::Write, "E23 write failed"),
+    (ProgramFault::Stuck, "the machine refused a step of the run"),
 ];
 
 #[test]
@@ -100,10 +96,10 @@ const DECK_FAULT_TEXTS: [(DeckFault, &str); 14] = [
 fn deck_fault_texts(rt: HostRuntime) -> Result<(), Fail> {
     let line = 10_000_001;
     for (fault, text) in &DECK_FAULT_TEXTS {
-        let fault = ProgramFault::Refused(Refusal::Deck {
+        let fault = ProgramFault::Deck {
             line,
             fault: *fault,
-        });
+        };
         expect_text(&rt, &fault, text)?;
     }
     Ok(())

@@ -2,7 +2,6 @@ use Rattle.std.proofs.Common.{◌≡◌, ◌≢◌, rules, refl, Ok, Err, inl, i
 use Rattle.std.proofs.KnownBytes.{Keeps-refl}
 use Rattle.clap.specs.Values.{kind_of}
 use Rattle.clap.specs.declared.error.kind.ErrorKind.TheVariants as kinds
-use Rattle.instructions.specs.declared.refusal.Refusal.TheVariants as refusals
 use Rattle.operator_terms.specs.declared.fault.ProgramFault.TheVariants as faults
 use Rattle.operator_terms.specs.declared.status.Status.TheVariants.{Stopped, Usage}
 use Rattle.operator_main.proofs.Unasked.{words_refused, text_printed}
@@ -11,7 +10,7 @@ use Rattle.operator_main.proofs.program.report_usage.Goals as goal
 pub returns-then-eq : goal.returns-then-eq
 returns-then-eq g c =
     let same : kind_of c.args.error ≡ kinds.OutOfMemory = search rules in (
-      Err (faults.Refused refusals.OutOfMemory),
+      Err faults.OutOfMemory,
       rw same (refl, Keeps-refl _),
       c.report_fault.ensures.told,
       c.report_fault.ensures.status,
@@ -38,8 +37,8 @@ returns g c =
     let other : kind_of c.args.error ≢ kinds.OutOfMemory = search rules in
     let shown : ¬ ((kind_of c.args.error ≢ kinds.DisplayHelp) × (kind_of c.args.error ≢ kinds.DisplayVersion)) =
     search rules in (
-      Err (faults.Refused refusals.Write),
-      text_printed kind (Err (faults.Refused refusals.Write)) _ _ other shown (inr refl),
+      Err faults.Write,
+      text_printed kind (Err faults.Write) _ _ other shown (inr refl),
       c.report_fault-in-Err.ensures.told,
       c.report_fault-in-Err.ensures.status,
     )

@@ -2,7 +2,7 @@ use Rattle.std.proofs.Common.{inl, inr}
 use Rattle.std.proofs.KnownBytes.{Keeps-refl}
 use Rattle.clap.specs.Values.{kind_of}
 use Rattle.operator_main.proofs.Telling.{ends_either}
-use Rattle.operator_main.proofs.program.answer.Goals as goal
+use Rattle.operator_main.proofs.program.program.Goals as goal
 
 pub returns-in-Ok : goal.returns-in-Ok
 returns-in-Ok g c =
@@ -10,7 +10,7 @@ returns-in-Ok g c =
 
 pub returns-in-Err : goal.returns-in-Err
 returns-in-Err g c =
-    let end = ends_either c.args.with_position _ _ _ _ c.report_usage.ensures in (
+    let end = ends_either c.args.streams.now.is_at_terminal _ _ _ _ c.report_usage.ensures in (
       end.0,
       record { done = inr (kind_of c.in-Err.error, end.1, Keeps-refl _); told = end.2 },
       end.3,
