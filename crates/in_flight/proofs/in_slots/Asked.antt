@@ -44,10 +44,3 @@ pub asked_view : {K W : Type 0} (slot_of key : K → ℕ) (ask : K → Option W)
 unfolding replaced put_back
 asked_view slot_of key ask os i m g ms q s h e =
     e ∙ ap (λ o. replaced o (sort_by key (somes os)) g) (sym (asked_found slot_of key ask os i m q s h).2)
-
-pub nobody_view : {K W : Type 0} (slot_of key : K → ℕ) (ask : K → Option W) (os : List (Option K)) (i : ℕ)
-    (g : K → List K) → IsOfSlot slot_of ask i → AreSlots slot_of key os → get_or os i None ≡ None
-    → sort_by key (somes os) ≡ replaced (seek ask (sort_by key (somes os))) (sort_by key (somes os)) g
-unfolding replaced
-nobody_view slot_of key ask os i g q s h =
-    ap (λ o. replaced o (sort_by key (somes os)) g) (sym (asked_nobody slot_of key ask os i q s h))

@@ -1,6 +1,6 @@
 -- The list that the slots represent, after an instruction is found in its slot, changed there, moved or removed.
 use Rattle.std.proofs.Common.{◌≡◌, ◌≢◌, ◌<◌, ◌≤◌, ◌+◌, ℕ, Bool, true, false, cond, List, [], ◌∷◌, ◌++◌}
-use Rattle.std.proofs.Common.{Option, Some, None, refl, sym, ap, ◌∙◌, subst, eqb, ltb, get_or, set, length, arith}
+use Rattle.std.proofs.Common.{Option, Some, None, refl, sym, ap, ◌∙◌, subst, ltb, get_or, set, length, arith}
 use Rattle.std.specs.Prelude.{◌&&◌, is_none, IfSome}
 use Rattle.std.specs.List.{list_all}
 use Rattle.std.proofs.lemmas.Bool.{eq-eqb, ne_eqb, lt-ltb, ltb-true, ltb-false}
@@ -11,14 +11,13 @@ use Rattle.instructions.specs.Each.{Each, Pairs}
 use Rattle.instructions.specs.Order.{insert_by, sort_by, somes, IsInSlots}
 use Rattle.instructions.proofs.Lists.{each_map}
 use Rattle.instructions.proofs.Slots.{in_slots_here, in_slots_empty, in_slots_fill}
-use Rattle.instructions.proofs.Slots.{slot_empty}
+use Rattle.instructions.proofs.Slots.{slot_any, slot_empty}
 use Rattle.instructions.proofs.Slots.{slots_below, before_slot, after_slot, found_nobody, within}
 use Rattle.instructions.proofs.Slots.{others_differ, own_taken, own_put, taken_without, moved_with, sort_new}
 use Rattle.instructions.proofs.Slots.{each_taken}
 use Rattle.scoreboard.proofs.in_slots.InSlots.{get_back, set_back, unit_below}
 use Rattle.in_flight.specs.declared.pending.Arrival.{Arrival}
 use Rattle.hopper.specs.declared.reference.Reference.{Reference}
-use Rattle.relocation.specs.declared.area.Access.{Access}
 use Rattle.in_flight.specs.declared.pending.Outstanding.{Outstanding}
 use Rattle.in_flight.specs.declared.pending.Outstanding.TheVariants.{Entered, Accepted}
 use Rattle.in_flight.specs.declared.pending.Pending.{Pending}
@@ -32,28 +31,71 @@ use Rattle.in_flight.specs.inner.Slots.{number_of, slot_in, slot_of, slots, in_o
 use Rattle.in_flight.specs.inner.Slots.{has_none, IsWithin, places_with, channels_with}
 use Rattle.instructions.proofs.Sorted.{each_sorted}
 use Rattle.in_flight.proofs.asking.Finding.{stage_found}
-use Rattle.in_flight.proofs.in_slots.Asked.{IsOfSlot, AreSlots, asked_found, asked_nobody, asked_view, nobody_view}
+use Rattle.in_flight.proofs.in_slots.Asked.{IsOfSlot, AreSlots, asked_found, asked_nobody, asked_view}
 
 -- ---- in order ----
 
 abbrev Own : List (Option Pending) → Type 0
 Own os = Pairs (λ x y. number_of x ≢ number_of y) (somes os)
 
--- the item in the slot, with its answer
-asked_answer : {W : Type 0} (ask : Pending → Option W) (os : List (Option Pending)) (i : ℕ) (m : Pending) (x : W)
-    → IsOfSlot slot_of ask i → AreSlots slot_of number_of os → get_or os i None ≡ Some m → ask m ≡ Some x
-    → Some (record { pending = m; answer = x }) ≡ located (seek ask (in_order os))
+-- the instruction or nothing was read in the slot that a question is about; the slots represent this list
+pub record IsRead {W : Type 0} (ask : Pending → Option W) (units places channels : List (Option Pending))
+    (ms : List Pending) (i : ℕ) (o : Option Pending) : Type 0 where
+  pub asked : IsOfSlot slot_of ask i
+  pub right : IsRight units places channels
+  pub there : get_or (slots units places channels) i None ≡ o
+  pub view : in_order (slots units places channels) ≡ ms
+
+as_slots : {units places channels : List (Option Pending)} → IsRight units places channels
+    → AreSlots slot_of number_of (slots units places channels)
+as_slots right = record { stands = right.stands; own = right.own }
+
+-- the answer of the instruction in the slot
+read_answers : {W : Type 0} {ask : Pending → Option W} {units places channels : List (Option Pending)}
+    {ms : List Pending} {i : ℕ} {m : Pending} → IsRead ask units places channels ms i (Some m) → (x : W)
+    × (ask m ≡ Some x)
+read_answers r = let f = asked_found slot_of number_of _ _ _ _ r.asked (as_slots r.right) r.there in (f.0, f.1)
+
+-- the search finds the instruction in the slot
+pub read_found : {W : Type 0} {ask : Pending → Option W} {units places channels : List (Option Pending)}
+    {ms : List Pending} {i : ℕ} {m : Pending} {x : W} → IsRead ask units places channels ms i (Some m)
+    → ask m ≡ Some x → Some (record { pending = m; answer = x }) ≡ located (seek ask ms)
 unfolding located
-asked_answer ask os i m x q s h k =
-    let f = asked_found slot_of number_of ask os i m q s h in
+read_found {ask = ask} {m = m} {x = x} r k =
+    let f = asked_found slot_of number_of _ _ _ _ r.asked (as_slots r.right) r.there in
     let e : Some x ≡ Some f.0 = sym k ∙ f.1 in
     let xe : x ≡ f.0 = cc in
     ap (λ z. Some (record { pending = m; answer = z })) xe ∙ ap located (sym f.2)
+    ∙ ap (λ l. located (seek ask l)) r.view
 
-asked_must : {W : Type 0} (ask : Pending → Option W) (os : List (Option Pending)) (i : ℕ) (m : Pending)
-    → IsOfSlot slot_of ask i → AreSlots slot_of number_of os → get_or os i None ≡ Some m → ask m ≡ None → ⊥
-asked_must ask os i m q s h k =
-    let f = asked_found slot_of number_of ask os i m q s h in let e : None ≡ Some f.0 = sym k ∙ f.1 in cc
+-- the instruction in the slot has an answer
+pub read_must : {W : Type 0} {ask : Pending → Option W} {units places channels : List (Option Pending)}
+    {ms : List Pending} {i : ℕ} {m : Pending} → IsRead ask units places channels ms i (Some m) → ask m ≡ None → ⊥
+read_must r k = let f = read_answers r in let e : None ≡ Some f.0 = sym k ∙ f.1 in cc
+
+-- the search finds nothing if the slot is empty
+pub read_nobody : {W : Type 0} {ask : Pending → Option W} {units places channels : List (Option Pending)}
+    {ms : List Pending} {i : ℕ} → IsRead ask units places channels ms i None → seek ask ms ≡ None
+read_nobody {ask = ask} r =
+    ap (seek ask) (sym r.view) ∙ asked_nobody slot_of number_of _ _ _ r.asked (as_slots r.right) r.there
+
+-- nothing is replaced if the slot is empty
+pub read_unchanged : {W : Type 0} {ask : Pending → Option W} {units places channels : List (Option Pending)}
+    {ms : List Pending} {i : ℕ} (g : Pending → List Pending) → IsRead ask units places channels ms i None
+    → ms ≡ replaced (seek ask ms) ms g
+unfolding replaced
+read_unchanged {ms = ms} g r = ap (λ o. replaced o ms g) (sym (read_nobody r))
+
+-- replacing the instruction at its position is replacing it in the list
+read_replaced : {W : Type 0} {ask : Pending → Option W} {units places channels : List (Option Pending)}
+    {ms : List Pending} {i : ℕ} {m : Pending} (g : Pending → List Pending) (ns : List Pending)
+    → IsRead ask units places channels ms i (Some m)
+    → ns ≡ before_slot number_of (slots units places channels) i m
+    ++ (g m ++ after_slot number_of (slots units places channels) i m)
+    → ns ≡ replaced (seek ask ms) ms g
+read_replaced {ask = ask} {ms = ms} g ns r e =
+    asked_view slot_of number_of ask _ _ _ g ns r.asked (as_slots r.right) r.there e
+    ∙ ap (λ l. replaced (seek ask l) l g) r.view
 
 -- ---- the one that holds a unit ----
 
@@ -77,54 +119,41 @@ stage_asked u i e = record {
   others = λ m h. stage_others u m.unit m.phase (λ q. h (q ∙ sym e));
 }
 
-as_slots : (units places channels : List (Option Pending)) → IsRight units places channels
-    → AreSlots slot_of number_of (slots units places channels)
-as_slots units places channels right = record { stands = right.stands; own = right.own }
-
 unit_slot : (units places channels : List (Option Pending)) (i : ℕ) (o : Option Pending) → i < length units
     → get_or units i None ≡ o → get_or (slots units places channels) i None ≡ o
 unfolding slots
 unit_slot units places channels i o l h = get_or_append_left units (places ++ channels) None i l ∙ h
 
-unit_empty : (units places channels : List (Option Pending)) (u : FunctionalUnit) (i : ℕ)
-    → IsRight units places channels → i ≡ unit_number u → get_or units i None ≡ None
-    → get_or (slots units places channels) i None ≡ None
-unit_empty units places channels u i right e h =
-    let b = unit_below u in unit_slot units places channels i None (omega (arith, b, e, right.all_units)) h
+-- the slot of a unit, read with any default
+pub unit_read : {units places channels : List (Option Pending)} {ms : List Pending} {i : ℕ} {o : Option Pending}
+    (u : FunctionalUnit) (d : Option Pending) → IsRight units places channels
+    → in_order (slots units places channels) ≡ ms → i ≡ unit_number u → get_or units i d ≡ o
+    → IsRead (stage_at u) units places channels ms i o
+unit_read {units} {places} {channels} {i = i} {o = o} u d right view e h =
+    let b = unit_below u in
+    let inside : i < length units = omega (arith, b, e, right.all_units) in
+    record {
+      asked = stage_asked u i e;
+      right = right;
+      there = unit_slot units places channels i o inside (slot_any units i d inside ∙ h);
+      view = view;
+    }
 
-pub stage_nobody : (units places channels : List (Option Pending)) (u : FunctionalUnit) (i : ℕ)
-    → IsRight units places channels → i ≡ unit_number u → get_or units i None ≡ None
-    → seek (stage_at u) (in_order (slots units places channels)) ≡ None
-stage_nobody units places channels u i right e h =
-    asked_nobody slot_of number_of (stage_at u) (slots units places channels) i (stage_asked u i e)
-    (as_slots units places channels right) (unit_empty units places channels u i right e h)
+-- the stage of the instruction that holds the unit
+pub stage_read : {units places channels : List (Option Pending)} {ms : List Pending} {i : ℕ} {m : Pending} {t : Stage}
+    (u : FunctionalUnit) → IsRead (stage_at u) units places channels ms i (Some m) → m.phase ≡ Before t
+    → Some (record { pending = m; answer = t }) ≡ located (seek (stage_at u) ms)
+stage_read {m = m} {t} u r k =
+    let a = read_answers r in
+    let q : Before t ≡ Before a.0 = sym k ∙ stage_found u m a.0 a.1 in
+    let same : a.0 ≡ t = cc in
+    read_found r (a.1 ∙ ap Some same)
 
-stage_in_unit : (units places channels : List (Option Pending)) (u : FunctionalUnit) (i : ℕ) (m : Pending)
-    → IsRight units places channels → i ≡ unit_number u → get_or units i None ≡ Some m
-    → (t : Stage) × (stage_at u m ≡ Some t)
-stage_in_unit units places channels u i m right e h =
-    let q = asked_found slot_of number_of (stage_at u) (slots units places channels) i m (stage_asked u i e)
-    (as_slots units places channels right) (unit_slot units places channels i (Some m) (within units i m h) h) in
-    (q.0, q.1)
-
-pub found_answer : (units places channels : List (Option Pending)) (u : FunctionalUnit) (i : ℕ) (m : Pending)
-    (t : Stage) → IsRight units places channels → i ≡ unit_number u → get_or units i None ≡ Some m
-    → m.phase ≡ Before t → Some (record { pending = m; answer = t })
-    ≡ located (seek (stage_at u) (in_order (slots units places channels)))
-found_answer units places channels u i m t right e h k =
-    let p = stage_in_unit units places channels u i m right e h in
-    let q : Before t ≡ Before p.0 = sym k ∙ stage_found u m p.0 p.1 in
-    let tp : p.0 ≡ t = cc in
-    asked_answer (stage_at u) (slots units places channels) i m t (stage_asked u i e)
-    (as_slots units places channels right) (unit_slot units places channels i (Some m) (within units i m h) h)
-    (p.1 ∙ ap Some tp)
-
-pub found_must : (units places channels : List (Option Pending)) (u : FunctionalUnit) (i : ℕ) (m : Pending)
-    (l : Outstanding) → IsRight units places channels → i ≡ unit_number u → get_or units i None ≡ Some m
+pub stage_must : {units places channels : List (Option Pending)} {ms : List Pending} {i : ℕ} {m : Pending}
+    {l : Outstanding} (u : FunctionalUnit) → IsRead (stage_at u) units places channels ms i (Some m)
     → m.phase ≡ After l → ⊥
-found_must units places channels u i m l right e h k =
-    let p = stage_in_unit units places channels u i m right e h in
-    let q : After l ≡ Before p.0 = sym k ∙ stage_found u m p.0 p.1 in cc
+stage_must {m = m} {l} u r k =
+    let a = read_answers r in let q : After l ≡ Before a.0 = sym k ∙ stage_found u m a.0 a.1 in cc
 
 -- ---- changed in its slot ----
 
@@ -155,60 +184,50 @@ own_moved os i j m p h own e l =
     own_put number_of (set os i None) j (in_phase m p) e (room_there os i j l) (others_number os i m p h own)
     (own_taken number_of os i m h own)
 
-pub staged_right : (units places channels : List (Option Pending)) (u : FunctionalUnit) (i : ℕ) (m : Pending)
-    (s : Stage) → IsRight units places channels → i ≡ unit_number u → get_or units i None ≡ Some m
+pub staged_right : {units places channels : List (Option Pending)} {ms : List Pending} {i : ℕ} {m : Pending}
+    (u : FunctionalUnit) (s : Stage) → IsRead (stage_at u) units places channels ms i (Some m) → i ≡ unit_number u
     → IsRight (set units i (Some (in_phase m (Before s)))) places channels
 unfolding slots
-staged_right units places channels u i m s right e h =
+staged_right {units} {places} {channels} {i = i} {m = m} u s r e =
     let os : List (Option Pending) = units ++ (places ++ channels) in
-    let here = unit_slot units places channels i (Some m) (within units i m h) h in
-    let p = stage_in_unit units places channels u i m right e h in
-    let front = set-append_left units (places ++ channels) i (Some (in_phase m (Before s))) (within units i m h) in
+    let b = unit_below u in
+    let inside : i < length units = omega (arith, b, e, r.right.all_units) in
+    let a = read_answers r in
+    let front = set-append_left units (places ++ channels) i (Some (in_phase m (Before s))) inside in
     record {
-      all_units = length-set units i (Some (in_phase m (Before s))) ∙ right.all_units;
-      all_places = right.all_places;
-      all_channels = right.all_channels;
+      all_units = length-set units i (Some (in_phase m (Before s))) ∙ r.right.all_units;
+      all_places = r.right.all_places;
+      all_channels = r.right.all_channels;
       stands = subst (IsInSlots slot_of 0) front
           (in_slots_fill slot_of os 0 i (in_phase m (Before s))
-          (staged_slot m p.0 s (stage_found u m p.0 p.1) ∙ in_slots_here slot_of os 0 i m here right.stands) right.stands);
+          (staged_slot m a.0 s (stage_found u m a.0 a.1) ∙ in_slots_here slot_of os 0 i m r.there r.right.stands)
+          r.right.stands);
       own = subst Own (set-set os i None (Some (in_phase m (Before s))) ∙ front)
-          (own_moved os i i m (Before s) here right.own (empty_there os i m here) (within os i m here));
+          (own_moved os i i m (Before s) r.there r.right.own (empty_there os i m r.there) (within os i m r.there));
     }
 
-staged_order : (units places channels : List (Option Pending)) (i : ℕ) (m : Pending) (s : Stage)
-    → get_or units i None ≡ Some m → Own (slots units places channels)
+staged_order : (units places channels : List (Option Pending)) (i : ℕ) (m : Pending) (s : Stage) → i < length units
+    → get_or (slots units places channels) i None ≡ Some m → Own (slots units places channels)
     → in_order (slots (set units i (Some (in_phase m (Before s)))) places channels)
     ≡ before_slot number_of (slots units places channels) i m
     ++ ((in_phase m (Before s) ∷ []) ++ after_slot number_of (slots units places channels) i m)
 unfolding slots
-staged_order units places channels i m s h own =
+staged_order units places channels i m s inside here own =
     let os : List (Option Pending) = units ++ (places ++ channels) in
-    let here = get_or_append_left units (places ++ channels) None i (within units i m h) ∙ h in
     ap (λ l. sort_by number_of (somes l))
     (sym (set-set os i None (Some (in_phase m (Before s)))
-    ∙ set-append_left units (places ++ channels) i (Some (in_phase m (Before s))) (within units i m h)))
+    ∙ set-append_left units (places ++ channels) i (Some (in_phase m (Before s))) inside))
     ∙ moved_with number_of os i i m (in_phase m (Before s)) here (phase_number m (Before s)) (empty_there os i m here)
     (room_there os i i (within os i m here)) own
 
-pub staged_view : (units places channels : List (Option Pending)) (u : FunctionalUnit) (i : ℕ) (m : Pending)
-    (s : Stage) → IsRight units places channels → i ≡ unit_number u → get_or units i None ≡ Some m
+pub staged_view : {units places channels : List (Option Pending)} {ms : List Pending} {i : ℕ} {m : Pending}
+    (u : FunctionalUnit) (s : Stage) → IsRead (stage_at u) units places channels ms i (Some m) → i ≡ unit_number u
     → in_order (slots (set units i (Some (in_phase m (Before s)))) places channels)
-    ≡ replaced (seek (stage_at u) (in_order (slots units places channels)))
-    (in_order (slots units places channels)) (λ x. in_phase x (Before s) ∷ [])
-staged_view units places channels u i m s right e h =
-    asked_view slot_of number_of (stage_at u) (slots units places channels) i m (λ x. in_phase x (Before s) ∷ []) _
-    (stage_asked u i e) (as_slots units places channels right)
-    (unit_slot units places channels i (Some m) (within units i m h) h)
-    (staged_order units places channels i m s h right.own)
-
-pub nobody_replaced : (g : Pending → List Pending) (units places channels : List (Option Pending)) (u : FunctionalUnit)
-    (i : ℕ) → IsRight units places channels → i ≡ unit_number u → get_or units i None ≡ None
-    → in_order (slots units places channels)
-    ≡ replaced (seek (stage_at u) (in_order (slots units places channels)))
-    (in_order (slots units places channels)) g
-nobody_replaced g units places channels u i right e h =
-    nobody_view slot_of number_of (stage_at u) (slots units places channels) i g (stage_asked u i e)
-    (as_slots units places channels right) (unit_empty units places channels u i right e h)
+    ≡ replaced (seek (stage_at u) ms) ms (λ x. in_phase x (Before s) ∷ [])
+staged_view {units} {places} {channels} {i = i} {m = m} u s r e =
+    let b = unit_below u in
+    read_replaced (λ x. in_phase x (Before s) ∷ []) _ r
+    (staged_order units places channels i m s (omega (arith, b, e, r.right.all_units)) r.there r.right.own)
 
 -- ---- moved to its place or its channel ----
 
@@ -216,14 +235,6 @@ nobody_replaced g units places channels u i right e h =
 abbrev pub HasRest : (places channels : List (Option Pending)) → Pending → Option Outstanding
     → (ps cs : List (Option Pending)) → Type 0
 HasRest places channels m l ps cs = (ps ≡ places_with places m l) × (cs ≡ channels_with channels m l)
-
-pub rest_over : (p q channels ps cs : List (Option Pending)) (m : Pending) (l : Option Outstanding) → p ≡ q
-    → HasRest p channels m l ps cs → HasRest q channels m l ps cs
-rest_over p q channels ps cs m l e r = subst (λ x. HasRest x channels m l ps cs) e r
-
-no_rest : (places channels : List (Option Pending)) (m : Pending) → HasRest places channels m None places channels
-unfolding places_with channels_with
-no_rest places channels m = (refl, refl)
 
 -- the place or the channel of the rest exists
 pub rest_within : (places channels : List (Option Pending)) (l : Option Outstanding) (ms : List Pending)
@@ -301,32 +312,36 @@ none_there : (units places channels ps cs : List (Option Pending)) (m : Pending)
 unfolding places_with channels_with
 none_there units places channels ps cs m rest = cc
 
--- an item is in its slot; without it, the slots are those of the three lists
-record IsOut (os units places channels : List (Option Pending)) (i : ℕ) (m : Pending) : Type 0 where
-  there : get_or os i None ≡ Some m
+-- without the item in one slot, the slots are those of the three lists
+pub record IsOut (os units places channels : List (Option Pending)) (i : ℕ) : Type 0 where
   rest : set os i None ≡ slots units places channels
-  all : length os ≡ 22
   all_units : length units ≡ 10
   all_places : length places ≡ 4
   all_channels : length channels ≡ 8
 
 -- the removed instruction moves into one of the three lists
-moved_right : (os units places channels ps cs : List (Option Pending)) (i : ℕ) (m : Pending) (l : Option Outstanding)
-    → AreSlots slot_of number_of os → IsOut os units places channels i m → HasRoom l (in_order os)
-    → HasRest places channels m l ps cs → IsRight units ps cs
-moved_right os units places channels ps cs i m None s o room rest = record {
-  all_units = o.all_units;
-  all_places = ap length rest.0 ∙ (with_lengths places channels m None).0 ∙ o.all_places;
-  all_channels = ap length rest.1 ∙ (with_lengths places channels m None).1 ∙ o.all_channels;
-  stands = subst (IsInSlots slot_of 0) (o.rest ∙ none_there units places channels ps cs m rest)
-      (in_slots_empty slot_of os 0 i s.stands);
-  own = subst Own (o.rest ∙ none_there units places channels ps cs m rest)
-      (own_taken number_of os i m o.there s.own);
-}
-moved_right os units places channels ps cs i m (Some l) s o room rest =
-    let low = left_below l (in_order os) room in
+pub moved_right : {W : Type 0} {ask : Pending → Option W} {us qs ns units places channels ps cs : List (Option Pending)}
+    {ms : List Pending} {i : ℕ} {m : Pending} (l : Option Outstanding) → IsRead ask us qs ns ms i (Some m)
+    → IsOut (slots us qs ns) units places channels i → HasRoom l ms → HasRest places channels m l ps cs
+    → IsRight units ps cs
+moved_right {us = us} {qs} {ns} {units} {places} {channels} {ps} {cs} {i = i} {m = m} None r o room rest =
+    let os : List (Option Pending) = slots us qs ns in
+    record {
+      all_units = o.all_units;
+      all_places = ap length rest.0 ∙ (with_lengths places channels m None).0 ∙ o.all_places;
+      all_channels = ap length rest.1 ∙ (with_lengths places channels m None).1 ∙ o.all_channels;
+      stands = subst (IsInSlots slot_of 0) (o.rest ∙ none_there units places channels ps cs m rest)
+          (in_slots_empty slot_of os 0 i r.right.stands);
+      own = subst Own (o.rest ∙ none_there units places channels ps cs m rest)
+          (own_taken number_of os i m r.there r.right.own);
+    }
+moved_right {us = us} {qs} {ns} {units} {places} {channels} {ps} {cs} {ms} {i} {m} (Some l) r o room rest =
+    let os : List (Option Pending) = slots us qs ns in
+    let free : HasRoom (Some l) (in_order os) = subst (HasRoom (Some l)) (sym r.view) room in
+    let low = left_below l (in_order os) free in
+    let all = all_slots us qs ns r.right in
     let there = ap (λ k. set k (later_slot l) (Some (in_phase m (After l)))) o.rest
-    ∙ left_slots units places channels m l (in_order os) o.all_units o.all_places room
+    ∙ left_slots units places channels m l (in_order os) o.all_units o.all_places free
     ∙ rest_there units places channels ps cs m (Some l) rest in
     record {
       all_units = o.all_units;
@@ -334,60 +349,50 @@ moved_right os units places channels ps cs i m (Some l) s o room rest =
       all_channels = ap length rest.1 ∙ (with_lengths places channels m (Some l)).1 ∙ o.all_channels;
       stands = subst (IsInSlots slot_of 0) there
           (in_slots_fill slot_of (set os i None) 0 (later_slot l) (in_phase m (After l))
-          (left_stands m l (in_order os) room ∙ omega arith) (in_slots_empty slot_of os 0 i s.stands));
-      own = subst Own there (own_moved os i (later_slot l) m (After l) o.there s.own
-          (left_empty os i l s.stands room) (omega (arith, o.all, low)));
+          (left_stands m l (in_order os) free ∙ omega arith) (in_slots_empty slot_of os 0 i r.right.stands));
+      own = subst Own there (own_moved os i (later_slot l) m (After l) r.there r.right.own
+          (left_empty os i l r.right.stands free) (omega (arith, all, low)));
     }
 
 moved_order : (os units places channels ps cs : List (Option Pending)) (i : ℕ) (m : Pending) (l : Option Outstanding)
-    → AreSlots slot_of number_of os → IsOut os units places channels i m → HasRoom l (in_order os)
-    → HasRest places channels m l ps cs
+    → get_or os i None ≡ Some m → AreSlots slot_of number_of os → length os ≡ 22
+    → IsOut os units places channels i → HasRoom l (in_order os) → HasRest places channels m l ps cs
     → in_order (slots units ps cs) ≡ before_slot number_of os i m ++ (kept m l ++ after_slot number_of os i m)
 unfolding kept
-moved_order os units places channels ps cs i m None s o room rest =
+moved_order os units places channels ps cs i m None there s all o room rest =
     ap (λ k. sort_by number_of (somes k)) (sym (o.rest ∙ none_there units places channels ps cs m rest))
     ∙ taken_without number_of (number_of m) os i
-moved_order os units places channels ps cs i m (Some l) s o room rest =
+moved_order os units places channels ps cs i m (Some l) there s all o room rest =
     let low = left_below l (in_order os) room in
     ap (λ k. sort_by number_of (somes k))
     (sym (ap (λ k. set k (later_slot l) (Some (in_phase m (After l)))) o.rest
     ∙ left_slots units places channels m l (in_order os) o.all_units o.all_places room
     ∙ rest_there units places channels ps cs m (Some l) rest))
-    ∙ moved_with number_of os i (later_slot l) m (in_phase m (After l)) o.there (phase_number m (After l))
-    (left_empty os i l s.stands room) (room_there os i (later_slot l) (omega (arith, o.all, low))) s.own
+    ∙ moved_with number_of os i (later_slot l) m (in_phase m (After l)) there (phase_number m (After l))
+    (left_empty os i l s.stands room) (room_there os i (later_slot l) (omega (arith, all, low))) s.own
+
+pub moved_view : {W : Type 0} {ask : Pending → Option W} {us qs ns units places channels ps cs : List (Option Pending)}
+    {ms : List Pending} {i : ℕ} {m : Pending} (l : Option Outstanding) → IsRead ask us qs ns ms i (Some m)
+    → IsOut (slots us qs ns) units places channels i → HasRoom l ms → HasRest places channels m l ps cs
+    → in_order (slots units ps cs) ≡ replaced (seek ask ms) ms (λ x. kept x l)
+moved_view {us = us} {qs} {ns} l r o room rest =
+    read_replaced (λ x. kept x l) _ r (moved_order _ _ _ _ _ _ _ _ l r.there (as_slots r.right)
+    (all_slots us qs ns r.right) o (subst (HasRoom l) (sym r.view) room) rest)
 
 -- ---- out of a unit ----
 
-unit_out : (units places channels : List (Option Pending)) (i : ℕ) (m : Pending) → IsRight units places channels
-    → get_or units i None ≡ Some m → IsOut (slots units places channels) (set units i None) places channels i m
+pub unit_out : {units places channels : List (Option Pending)} {i : ℕ} (u : FunctionalUnit)
+    → IsRight units places channels → i ≡ unit_number u
+    → IsOut (slots units places channels) (set units i None) places channels i
 unfolding slots
-unit_out units places channels i m right h = record {
-  there = unit_slot units places channels i (Some m) (within units i m h) h;
-  rest = set-append_left units (places ++ channels) i None (within units i m h);
-  all = all_slots units places channels right;
-  all_units = length-set units i None ∙ right.all_units;
-  all_places = right.all_places;
-  all_channels = right.all_channels;
-}
-
-pub left_right : (units places channels ps cs : List (Option Pending)) (i : ℕ) (m : Pending) (l : Option Outstanding)
-    → IsRight units places channels → get_or units i None ≡ Some m → HasRoom l (in_order (slots units places channels))
-    → HasRest places channels m l ps cs → IsRight (set units i None) ps cs
-left_right units places channels ps cs i m l right h =
-    moved_right _ _ places channels ps cs i m l (as_slots units places channels right)
-    (unit_out units places channels i m right h)
-
-pub left_view : (units places channels ps cs : List (Option Pending)) (u : FunctionalUnit) (i : ℕ) (m : Pending)
-    (l : Option Outstanding) → IsRight units places channels → i ≡ unit_number u → get_or units i None ≡ Some m
-    → HasRoom l (in_order (slots units places channels))
-    → HasRest places channels m l ps cs → in_order (slots (set units i None) ps cs)
-    ≡ replaced (seek (stage_at u) (in_order (slots units places channels)))
-    (in_order (slots units places channels)) (λ x. kept x l)
-left_view units places channels ps cs u i m l right e h room rest =
-    let o = unit_out units places channels i m right h in
-    let s = as_slots units places channels right in
-    asked_view slot_of number_of (stage_at u) _ i m (λ x. kept x l) _ (stage_asked u i e) s o.there
-    (moved_order _ _ places channels ps cs i m l s o room rest)
+unit_out {units} {places} {channels} {i} u right e =
+    let b = unit_below u in
+    record {
+      rest = set-append_left units (places ++ channels) i None (omega (arith, b, e, right.all_units));
+      all_units = length-set units i None ∙ right.all_units;
+      all_places = right.all_places;
+      all_channels = right.all_channels;
+    }
 
 -- ---- out of a place ----
 
@@ -404,85 +409,41 @@ entry_others p v (Before t) b h = refl
 entry_others p v (After (Accepted n w)) b h = refl
 entry_others p v (After (Entered s a x)) b h = grind arith
 
-pub entry_asked : (p : ℕ) → p < 4 → IsOfSlot slot_of (entry_at p) (10 + p)
+entry_asked : (p i : ℕ) → p < 4 → i ≡ p → IsOfSlot slot_of (entry_at p) (10 + i)
 unfolding entry_at slot_of
-entry_asked p b = record {
-  here = λ m h. entry_here p m.unit m.phase b h;
-  others = λ m h. entry_others p m.unit m.phase b h;
+entry_asked p i b e = record {
+  here = λ m h. entry_here p m.unit m.phase b (h ∙ ap (λ k. 10 + k) e);
+  others = λ m h. entry_others p m.unit m.phase b (λ q. h (q ∙ ap (λ k. 10 + k) (sym e)));
 }
 
 pub entry_is : (p : ℕ) (m : Pending) → p < 4 → slot_of m ≡ 10 + p → (e : Reference) × (entry_at p m ≡ Some e)
-entry_is p m b h = (entry_asked p b).here m h
+entry_is p m b h = (entry_asked p p b refl).here m h
 
-place_slot : (units places channels : List (Option Pending)) (p : ℕ) (o : Option Pending) → length units ≡ 10
-    → p < length places → get_or places p None ≡ o → get_or (slots units places channels) (10 + p) None ≡ o
+-- the slot of a place of the hopper, read with any default
+pub place_read : {units places channels : List (Option Pending)} {ms : List Pending} {i p : ℕ} {o : Option Pending}
+    (d : Option Pending) → IsRight units places channels → in_order (slots units places channels) ≡ ms → p < 4
+    → i ≡ p → get_or places i d ≡ o → IsRead (entry_at p) units places channels ms (10 + i) o
 unfolding slots
-place_slot units places channels p o lu b h = get_back units (places ++ channels) p (10 + p) None (omega (arith, lu))
-    ∙ get_or_append_left places channels None p b ∙ h
+place_read {units} {places} {channels} {i = i} {p} d right view b e h =
+    let inside : i < length places = omega (arith, b, e, right.all_places) in
+    record {
+      asked = entry_asked p i b e;
+      right = right;
+      there = get_back units (places ++ channels) i (10 + i) None (omega (arith, right.all_units))
+          ∙ get_or_append_left places channels None i inside ∙ slot_any places i d inside ∙ h;
+      view = view;
+    }
 
-place_out : (units places channels : List (Option Pending)) (p : ℕ) (m : Pending) → IsRight units places channels
-    → get_or places p None ≡ Some m → IsOut (slots units places channels) units (set places p None) channels (10 + p) m
+pub place_out : {units places channels : List (Option Pending)} {i : ℕ} → IsRight units places channels → i < 4
+    → IsOut (slots units places channels) units (set places i None) channels (10 + i)
 unfolding slots
-place_out units places channels p m right h = record {
-  there = place_slot units places channels p (Some m) right.all_units (within places p m h) h;
-  rest = set_back units (places ++ channels) p (10 + p) None (omega (arith, right.all_units))
-      ∙ ap (λ os. units ++ os) (set-append_left places channels p None (within places p m h));
-  all = all_slots units places channels right;
+place_out {units} {places} {channels} {i} right b = record {
+  rest = set_back units (places ++ channels) i (10 + i) None (omega (arith, right.all_units))
+      ∙ ap (λ os. units ++ os) (set-append_left places channels i None (omega (arith, b, right.all_places)));
   all_units = right.all_units;
-  all_places = length-set places p None ∙ right.all_places;
+  all_places = length-set places i None ∙ right.all_places;
   all_channels = right.all_channels;
 }
-
-pub entry_nobody : (units places channels : List (Option Pending)) (p : ℕ) → IsRight units places channels → p < 4
-    → get_or places p None ≡ None → seek (entry_at p) (in_order (slots units places channels)) ≡ None
-entry_nobody units places channels p right b h =
-    asked_nobody slot_of number_of (entry_at p) (slots units places channels) (10 + p) (entry_asked p b)
-    (as_slots units places channels right)
-    (place_slot units places channels p None right.all_units (omega (arith, b, right.all_places)) h)
-
-pub entry_answer : (units places channels : List (Option Pending)) (p : ℕ) (m : Pending) (x : Reference)
-    → IsRight units places channels → p < 4 → get_or places p None ≡ Some m → entry_at p m ≡ Some x
-    → Some (record { pending = m; answer = x }) ≡ located (seek (entry_at p) (in_order (slots units places channels)))
-entry_answer units places channels p m x right b h k =
-    asked_answer (entry_at p) (slots units places channels) (10 + p) m x (entry_asked p b)
-    (as_slots units places channels right) (place_out units places channels p m right h).there k
-
-pub entry_must : (units places channels : List (Option Pending)) (p : ℕ) (m : Pending) → IsRight units places channels
-    → p < 4 → get_or places p None ≡ Some m → entry_at p m ≡ None → ⊥
-entry_must units places channels p m right b h k =
-    asked_must (entry_at p) (slots units places channels) (10 + p) m (entry_asked p b)
-    (as_slots units places channels right) (place_out units places channels p m right h).there k
-
-pub accepted_right : (units places channels ps cs : List (Option Pending)) (p : ℕ) (m : Pending) (l : Option
-    Outstanding)
-    → IsRight units places channels → get_or places p None ≡ Some m
-    → HasRoom l (in_order (slots units places channels))
-    → HasRest (set places p None) channels m l ps cs → IsRight units ps cs
-accepted_right units places channels ps cs p m l right h =
-    moved_right _ _ (set places p None) channels ps cs (10 + p) m l (as_slots units places channels right)
-    (place_out units places channels p m right h)
-
-pub accepted_view : (units places channels ps cs : List (Option Pending)) (p : ℕ) (m : Pending) (l : Option Outstanding)
-    → IsRight units places channels → p < 4 → get_or places p None ≡ Some m
-    → HasRoom l (in_order (slots units places channels))
-    → HasRest (set places p None) channels m l ps cs → in_order (slots units ps cs)
-    ≡ replaced (seek (entry_at p) (in_order (slots units places channels)))
-    (in_order (slots units places channels)) (λ x. kept x l)
-accepted_view units places channels ps cs p m l right b h room rest =
-    let o = place_out units places channels p m right h in
-    let s = as_slots units places channels right in
-    asked_view slot_of number_of (entry_at p) _ (10 + p) m (λ x. kept x l) _ (entry_asked p b) s o.there
-    (moved_order _ _ (set places p None) channels ps cs (10 + p) m l s o room rest)
-
-pub nobody_accepted : (g : Pending → List Pending) (units places channels : List (Option Pending)) (p : ℕ)
-    → IsRight units places channels → p < 4 → get_or places p None ≡ None
-    → in_order (slots units places channels)
-    ≡ replaced (seek (entry_at p) (in_order (slots units places channels)))
-    (in_order (slots units places channels)) g
-nobody_accepted g units places channels p right b h =
-    nobody_view slot_of number_of (entry_at p) (slots units places channels) (10 + p) g (entry_asked p b)
-    (as_slots units places channels right)
-    (place_slot units places channels p None right.all_units (omega (arith, b, right.all_places)) h)
 
 -- ---- out of a channel ----
 
@@ -499,42 +460,45 @@ arrival_others n v (Before t) b h = refl
 arrival_others n v (After (Entered s a x)) b h = refl
 arrival_others n v (After (Accepted m w)) b h = grind arith
 
-pub arrival_asked : (n : ℕ) → n < 8 → IsOfSlot slot_of (arrival_at n) (14 + n)
+arrival_asked : (n i : ℕ) → n < 8 → i ≡ n → IsOfSlot slot_of (arrival_at n) (14 + i)
 unfolding arrival_at slot_of
-arrival_asked n b = record {
-  here = λ m h. arrival_here n m.unit m.phase b h;
-  others = λ m h. arrival_others n m.unit m.phase b h;
+arrival_asked n i b e = record {
+  here = λ m h. arrival_here n m.unit m.phase b (h ∙ ap (λ k. 14 + k) e);
+  others = λ m h. arrival_others n m.unit m.phase b (λ q. h (q ∙ ap (λ k. 14 + k) (sym e)));
 }
 
 pub arrival_is : (n : ℕ) (m : Pending) → n < 8 → slot_of m ≡ 14 + n → (e : Arrival) × (arrival_at n m ≡ Some e)
-arrival_is n m b h = (arrival_asked n b).here m h
+arrival_is n m b h = (arrival_asked n n b refl).here m h
 
-channel_slot : (units places channels : List (Option Pending)) (n : ℕ) (o : Option Pending) → length units ≡ 10
-    → length places ≡ 4 → get_or channels n None ≡ o → get_or (slots units places channels) (14 + n) None ≡ o
+-- the slot of a channel, read with any default
+pub channel_read : {units places channels : List (Option Pending)} {ms : List Pending} {i n : ℕ} {o : Option Pending}
+    (d : Option Pending) → IsRight units places channels → in_order (slots units places channels) ≡ ms → n < 8
+    → i ≡ n → get_or channels i d ≡ o → IsRead (arrival_at n) units places channels ms (14 + i) o
 unfolding slots
-channel_slot units places channels n o lu lp h =
-    get_back units (places ++ channels) (4 + n) (14 + n) None (omega (arith, lu))
-    ∙ get_back places channels n (4 + n) None (omega (arith, lp)) ∙ h
-
-channel_out : (units places channels : List (Option Pending)) (n : ℕ) (m : Pending) → IsRight units places channels
-    → get_or channels n None ≡ Some m → IsOut (slots units places channels) units places (set channels n None) (14 + n) m
-unfolding slots
-channel_out units places channels n m right h = record {
-  there = channel_slot units places channels n (Some m) right.all_units right.all_places h;
-  rest = set_back units (places ++ channels) (4 + n) (14 + n) None (omega (arith, right.all_units))
-      ∙ ap (λ os. units ++ os) (set_back places channels n (4 + n) None (omega (arith, right.all_places)));
-  all = all_slots units places channels right;
-  all_units = right.all_units;
-  all_places = right.all_places;
-  all_channels = length-set channels n None ∙ right.all_channels;
+channel_read {units} {places} {channels} {i = i} {n} d right view b e h = record {
+  asked = arrival_asked n i b e;
+  right = right;
+  there = get_back units (places ++ channels) (4 + i) (14 + i) None (omega (arith, right.all_units))
+      ∙ get_back places channels i (4 + i) None (omega (arith, right.all_places))
+      ∙ slot_any channels i d (omega (arith, b, e, right.all_channels)) ∙ h;
+  view = view;
 }
 
-arrival_nobody : (units places channels : List (Option Pending)) (n : ℕ) → IsRight units places channels → n < 8
-    → get_or channels n None ≡ None → seek (arrival_at n) (in_order (slots units places channels)) ≡ None
-arrival_nobody units places channels n right b h =
-    asked_nobody slot_of number_of (arrival_at n) (slots units places channels) (14 + n) (arrival_asked n b)
-    (as_slots units places channels right)
-    (channel_slot units places channels n None right.all_units right.all_places h)
+pub channel_out : {units places channels : List (Option Pending)} (i : ℕ) → IsRight units places channels
+    → IsOut (slots units places channels) units places (set channels i None) (14 + i)
+unfolding slots
+channel_out {units} {places} {channels} i right = record {
+  rest = set_back units (places ++ channels) (4 + i) (14 + i) None (omega (arith, right.all_units))
+      ∙ ap (λ os. units ++ os) (set_back places channels i (4 + i) None (omega (arith, right.all_places)));
+  all_units = right.all_units;
+  all_places = right.all_places;
+  all_channels = length-set channels i None ∙ right.all_channels;
+}
+
+-- the removed instruction has nothing left to do
+pub no_rest : (places channels : List (Option Pending)) (m : Pending) → HasRest places channels m None places channels
+unfolding places_with channels_with
+no_rest places channels m = (refl, refl)
 
 arrival_far_in : (n : ℕ) (v : FunctionalUnit) (q : Phase) → 8 ≤ n → slot_in v q < 22 → arrival_in n q ≡ None
 unfolding arrival_in slot_in
@@ -556,73 +520,35 @@ arrival_beyond units places channels n right b =
     (each_map (λ y. slot_of y < 22) (λ y. arrival_at n y ≡ None) (λ y k. arrival_far n y b k) (somes os)
     (slots_below slot_of os 0 22 (omega (arith, all)) right.stands))
 
-pub arrival_none : (units places channels : List (Option Pending)) (n : ℕ) → IsRight units places channels
-    → get_or channels n None ≡ None → seek (arrival_at n) (in_order (slots units places channels)) ≡ None
-arrival_none units places channels n right h = by_test (ltb n 8) refl
+pub arrival_none : {units places channels : List (Option Pending)} {ms : List Pending} (n : ℕ)
+    → IsRight units places channels → in_order (slots units places channels) ≡ ms → get_or channels n None ≡ None
+    → seek (arrival_at n) ms ≡ None
+arrival_none {units} {places} {channels} {ms} n right view h = by_test (ltb n 8) refl
   where
-    by_test : (b : Bool) → ltb n 8 ≡ b → seek (arrival_at n) (in_order (slots units places channels)) ≡ None
-    by_test true e = arrival_nobody units places channels n right (ltb-true n 8 e) h
-    by_test false e = arrival_beyond units places channels n right (ltb-false n 8 e)
+    by_test : (b : Bool) → ltb n 8 ≡ b → seek (arrival_at n) ms ≡ None
+    by_test true e = read_nobody (channel_read None right view (ltb-true n 8 e) refl h)
+    by_test false e =
+        subst (λ l. seek (arrival_at n) l ≡ None) view
+        (arrival_beyond units places channels n right (ltb-false n 8 e))
 
-pub channel_below : (units places channels : List (Option Pending)) (n : ℕ) (m : Pending)
+pub channel_below : {units places channels : List (Option Pending)} (n : ℕ) (m : Pending)
     → IsRight units places channels → get_or channels n None ≡ Some m → n < 8
-channel_below units places channels n m right h = let w = within channels n m h in omega (arith, w, right.all_channels)
-
-pub arrival_answer : (units places channels : List (Option Pending)) (n : ℕ) (m : Pending) (x : Arrival)
-    → IsRight units places channels → n < 8 → get_or channels n None ≡ Some m → arrival_at n m ≡ Some x
-    → Some (record { pending = m; answer = x }) ≡ located (seek (arrival_at n) (in_order (slots units places channels)))
-arrival_answer units places channels n m x right b h k =
-    asked_answer (arrival_at n) (slots units places channels) (14 + n) m x (arrival_asked n b)
-    (as_slots units places channels right) (channel_out units places channels n m right h).there k
-
-pub arrival_must : (units places channels : List (Option Pending)) (n : ℕ) (m : Pending)
-    → IsRight units places channels → n < 8 → get_or channels n None ≡ Some m → arrival_at n m ≡ None → ⊥
-arrival_must units places channels n m right b h k =
-    asked_must (arrival_at n) (slots units places channels) (14 + n) m (arrival_asked n b)
-    (as_slots units places channels right) (channel_out units places channels n m right h).there k
-
-pub returned_right : (units places channels : List (Option Pending)) (n : ℕ) (m : Pending)
-    → IsRight units places channels → get_or channels n None ≡ Some m → IsRight units places (set channels n None)
-returned_right units places channels n m right h =
-    moved_right _ _ places (set channels n None) _ _ (14 + n) m None (as_slots units places channels right)
-    (channel_out units places channels n m right h) tt (no_rest places (set channels n None) m)
-
-pub returned_view : (units places channels : List (Option Pending)) (n : ℕ) (m : Pending)
-    → IsRight units places channels → n < 8 → get_or channels n None ≡ Some m
-    → in_order (slots units places (set channels n None))
-    ≡ replaced (seek (arrival_at n) (in_order (slots units places channels)))
-    (in_order (slots units places channels)) (λ x. [])
-unfolding kept
-returned_view units places channels n m right b h =
-    let o = channel_out units places channels n m right h in
-    let s = as_slots units places channels right in
-    asked_view slot_of number_of (arrival_at n) _ (14 + n) m (λ x. kept x None) _ (arrival_asked n b) s o.there
-    (moved_order _ _ places (set channels n None) _ _ (14 + n) m None s o tt
-    (no_rest places (set channels n None) m))
-
-pub nobody_returned : (g : Pending → List Pending) (units places channels : List (Option Pending)) (n : ℕ)
-    → IsRight units places channels → n < 8 → get_or channels n None ≡ None
-    → in_order (slots units places channels)
-    ≡ replaced (seek (arrival_at n) (in_order (slots units places channels)))
-    (in_order (slots units places channels)) g
-nobody_returned g units places channels n right b h =
-    nobody_view slot_of number_of (arrival_at n) (slots units places channels) (14 + n) g (arrival_asked n b)
-    (as_slots units places channels right)
-    (channel_slot units places channels n None right.all_units right.all_places h)
+channel_below {channels = channels} n m right h =
+    let w = within channels n m h in omega (arith, w, right.all_channels)
 
 -- ---- a new one ----
 
-pub slot_free : (units places channels : List (Option Pending)) (u : FunctionalUnit) (i : ℕ)
-    → IsRight units places channels → i ≡ unit_number u
-    → seek (stage_at u) (in_order (slots units places channels)) ≡ None → get_or units i None ≡ None
-slot_free units places channels u i right e h = by_slot (get_or units i None) refl
+pub slot_free : {units places channels : List (Option Pending)} {ms : List Pending} {i : ℕ} (u : FunctionalUnit)
+    → IsRight units places channels → in_order (slots units places channels) ≡ ms → i ≡ unit_number u
+    → seek (stage_at u) ms ≡ None → get_or units i None ≡ None
+slot_free {units} {i = i} u right view e h = by_slot (get_or units i None) refl
   where
     by_slot : (o : Option Pending) → get_or units i None ≡ o → o ≡ None
     by_slot None k = refl
     by_slot (Some m) k =
-        let f = asked_found slot_of number_of (stage_at u) (slots units places channels) i m (stage_asked u i e)
-        (as_slots units places channels right) (unit_slot units places channels i (Some m) (within units i m k) k) in
-        let q : None ≡ Some _ = sym h ∙ f.2 in cc
+        let r = unit_read u None right view e k in
+        let f = asked_found slot_of number_of _ _ _ _ r.asked (as_slots r.right) r.there in
+        let q : None ≡ Some _ = sym h ∙ ap (seek (stage_at u)) (sym view) ∙ f.2 in cc
 
 new_stands : (m : Pending) (t : Stage) → m.phase ≡ Before t → slot_of m ≡ unit_number m.unit
 unfolding slot_of slot_in

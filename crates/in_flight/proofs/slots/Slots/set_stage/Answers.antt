@@ -1,13 +1,11 @@
-use Rattle.scoreboard.proofs.in_slots.Small.{index_of, index_is, index_below}
-use Rattle.std.proofs.Common.{ap, sym, ◌∙◌, subst, [], ◌∷◌, arith}
+use Rattle.scoreboard.proofs.in_slots.Small.{index_of, index_is}
+use Rattle.std.proofs.Common.{ap, sym, ◌∙◌, subst, [], ◌∷◌}
 use Rattle.std.proofs.lemmas.List.{set-get_or}
 use Rattle.in_flight.specs.declared.pending.Phase.TheVariants.{Before}
 use Rattle.in_flight.specs.declared.slots.Slots.TheInside.{Inside}
-use Rattle.instructions.specs.Finding.{seek, replaced}
-use Rattle.instructions.proofs.Slots.{slot_any}
-use Rattle.in_flight.specs.Lookup.{stage_at, in_phase}
+use Rattle.in_flight.specs.Lookup.{in_phase}
 use Rattle.in_flight.specs.inner.Slots.{slots, in_order, IsRight}
-use Rattle.in_flight.proofs.in_slots.Moving.{staged_right, staged_view, nobody_replaced}
+use Rattle.in_flight.proofs.in_slots.Moving.{unit_read, staged_right, staged_view, read_unchanged}
 use Rattle.in_flight.proofs.slots.Slots.set_stage.Goals as goal
 use Rattle.in_flight.proofs.slots.Slots.set_stage.Goals.{in-Some, in_default}
 
@@ -17,10 +15,9 @@ invariant_of-self c =
     elim c.match-self-index.branch [
       | in-Some w ↦
           subst (λ (x : Inside). IsRight x.units x.places x.channels) (sym w.self-inside-is)
-          (staged_right c.self.inside.units c.self.inside.places c.self.inside.channels c.args.unit
-          (index_of c.args.unit) w.in-Some.pending c.args.stage c.self.invariant (index_is c.args.unit)
-          (slot_any c.self.inside.units (index_of c.args.unit) c.index-self-index.result
-          (omega (arith, index_below c.args.unit, c.self.invariant.all_units)) ∙ w.in-Some.is))
+          (staged_right c.args.unit c.args.stage
+          (unit_read c.args.unit c.index-self-index.result c.self.invariant c.self.view_is (index_is c.args.unit)
+          w.in-Some.is) (index_is c.args.unit))
       | in_default w ↦
           subst (λ (x : Inside). IsRight x.units x.places x.channels) (sym w.self-inside-is)
           (subst (λ us. IsRight us c.self.inside.places c.self.inside.channels)
@@ -33,21 +30,15 @@ returns c =
     elim c.match-self-index.branch [
       | in-Some w ↦
           ap (λ (x : Inside). in_order (slots x.units x.places x.channels)) w.self-inside-is
-          ∙ staged_view c.self.inside.units c.self.inside.places c.self.inside.channels c.args.unit
-          (index_of c.args.unit) w.in-Some.pending c.args.stage c.self.invariant (index_is c.args.unit)
-          (slot_any c.self.inside.units (index_of c.args.unit) c.index-self-index.result
-          (omega (arith, index_below c.args.unit, c.self.invariant.all_units)) ∙ w.in-Some.is)
-          ∙ ap (λ ms. replaced (seek (stage_at c.args.unit) ms) ms (λ m. in_phase m (Before c.args.stage) ∷ []))
-          c.self.view_is
+          ∙ staged_view c.args.unit c.args.stage
+          (unit_read c.args.unit c.index-self-index.result c.self.invariant c.self.view_is (index_is c.args.unit)
+          w.in-Some.is) (index_is c.args.unit)
       | in_default w ↦
           ap (λ (x : Inside). in_order (slots x.units x.places x.channels)) w.self-inside-is
           ∙ ap (λ us. in_order (slots us c.self.inside.places c.self.inside.channels))
           (set-get_or c.self.inside.units (index_of c.args.unit) c.index-self-index.result)
-          ∙ nobody_replaced (λ m. in_phase m (Before c.args.stage) ∷ []) c.self.inside.units c.self.inside.places
-          c.self.inside.channels c.args.unit (index_of c.args.unit) c.self.invariant
-          (index_is c.args.unit)
-          (slot_any c.self.inside.units (index_of c.args.unit) c.index-self-index.result
-          (omega (arith, index_below c.args.unit, c.self.invariant.all_units)) ∙ w.in_default.is)
-          ∙ ap (λ ms. replaced (seek (stage_at c.args.unit) ms) ms (λ m. in_phase m (Before c.args.stage) ∷ []))
-          c.self.view_is
+          ∙ c.self.view_is
+          ∙ read_unchanged (λ m. in_phase m (Before c.args.stage) ∷ [])
+          (unit_read c.args.unit c.index-self-index.result c.self.invariant c.self.view_is (index_is c.args.unit)
+          w.in_default.is)
     ]
