@@ -4,10 +4,9 @@ use Rattle.std.proofs.Common.{Some, None, refl, get_or, map, arith}
 use Rattle.std.specs.Prelude.{◌||◌}
 use Rattle.instructions.specs.declared.instr.Op.{Op}
 use Rattle.instructions.specs.declared.instr.Op.TheVariants.{Plain, Extended}
-use Rattle.instructions.specs.declared.instr.Target.TheVariants.{A as TargetA, B as TargetB, X as TargetX}
 use Rattle.instruction_table.specs.declared.decoding.TableEntry.{TableEntry}
 use Rattle.instruction_table.specs.declared.decoding.TableEntry.TheVariants.{Short, Long, Refused}
-use Rattle.instruction_table.specs.Decoding.{entry, logicals, shifts, additions, others, increments}
+use Rattle.instruction_table.specs.Decoding.{entry}
 use Rattle.instruction_table.specs.Decoding.{rows, entry_of}
 use Rattle.instruction_table.specs.Opcode.{op_at}
 
@@ -26,18 +25,6 @@ refused_in_row : (xss : List (List TableEntry)) (f m : ℕ)
 refused_in_row [] f m = refl
 refused_in_row (xs ∷ xss) zero m = refused_at xs m
 refused_in_row (xs ∷ xss) (suc f) m = refused_in_row xss f m
-
--- the rows for first digits above 0
-abbrev upper_rows : ℕ → ℕ → ℕ → ℕ → List (List TableEntry)
-upper_rows i j k K =
-    logicals i j k
-    ∷ shifts i j k
-    ∷ additions i j k
-    ∷ others i j k
-    ∷ increments TargetA i j k K
-    ∷ increments TargetB i j k K
-    ∷ increments TargetX i j k K
-    ∷ []
 
 -- only after 01 does the field i matter
 same_refusal : (f m i i' j j' k k' K K' : ℕ) → (f ≡ 0 → m ≡ 1 → i ≡ i')
