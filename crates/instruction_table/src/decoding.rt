@@ -200,6 +200,7 @@ fn increment(target: Target, m: Digit, i: Digit, j: Digit, k: Digit, address: Wo
 
 /// The entry of a parcel and the parcel that follows it.
 #[inline(always)]
+#[tactic(auto, using(crate::proofs::table::DecodingLaws::entry_known))]
 fn entry_at(parcel: u16, following: u16) -> TableEntry
     requires parcel { parcel < 2 ^ 15 }
     requires following { following < 2 ^ 15 }
@@ -225,6 +226,7 @@ fn entry_at(parcel: u16, following: u16) -> TableEntry
 /// Decodes as `decode` does, given the first two digits. If the digits are a constant, the compiler keeps only the code
 /// for that opcode.
 #[inline(always)]
+#[tactic(auto, using(crate::proofs::table::DecodingLaws::settled_at, crate::proofs::table::DecodingLaws::whole_parcel, crate::proofs::table::DecodingLaws::long_settled, crate::proofs::table::DecodingLaws::straddled))]
 pub fn decode_as(word: Word60, position: u8, digits: u16) -> Decoded
     requires position { position < 4 }
     requires digits { digits ≡ digits_at word position }
@@ -261,6 +263,7 @@ pub fn first_digits(word: Word60, position: u8) -> u16
 /// Unused fields are ignored, which is this project's choice: i, j and k of `PS` and `NO`, j of `RJ` and `JP`, k of
 /// `BXi Xj`, j of `BXi -Xk` and `CXi Xk`.
 #[inline(always)]
+#[tactic(auto, using(crate::proofs::table::RoundTrip::reading_of_parcels, crate::proofs::table::RoundTrip::reading_of_pattern, crate::proofs::table::ByTable::by_table))]
 pub fn decode(word: Word60, position: u8) -> Decoded
     requires { position < 4 }
     ensures value { result ≡ reading_at word position }

@@ -27,6 +27,7 @@ fn digit(text: &[u8], at: usize) -> Digit
 }
 
 /// The octal number from a position on, modulo 2^18.
+#[tactic(auto, using(std::proofs::lemmas::List::drop_all), unfolding(crate::specs::Candidate::number_of))]
 fn number(text: &[u8], from: usize) -> u32
     ensures value { result ≡ number_of text.now from }
     ensures range { result < 2 ^ 18 }

@@ -1,6 +1,6 @@
 -- A run begins with the exchange for its first package.
 use Rattle.std.proofs.Common.{◌≡◌, ℕ, zero, suc, Bool, true, false, cond, List, [], ◌∷◌, ◌++◌, Some, None, length}
-use Rattle.std.proofs.Common.{refl, sym, ap, subst, ◌∙◌, append_assoc}
+use Rattle.std.proofs.Common.{refl, sym, ap, append_assoc, arith}
 use Rattle.std.proofs.lemmas.List.{append-nil}
 use Rattle.relocation.specs.Relocation.{package_fits}
 use Rattle.sequential.specs.declared.state.State.{State}
@@ -9,7 +9,7 @@ use Rattle.sequential.specs.Replay.{LogStep, Issued, Exchanged, boot}
 use Rattle.sequential.specs.Swap.{swap}
 use Rattle.sequential_run.specs.Turns.{Moment, Turn, Exchanges, Asks, AsksFree, Issues, Ends, begun, next_turn}
 use Rattle.sequential_run.specs.Turns.{take_turn, turns, turn_by, first_due, is_in_mid_word, is_going}
-use Rattle.sequential_run.specs.Run.{EndsAt, IsSequentialRun}
+use Rattle.sequential_run.specs.Run.{IsSequentialRun}
 use Rattle.sequential_run.proofs.Ordered.{start_first}
 
 -- ---- a log only grows ----
@@ -33,8 +33,7 @@ unfolding turns
 turns_grow budget zero m = ([], sym (append-nil m.log))
 turns_grow budget (suc n) m =
     let a = turn_grows m (next_turn budget m) in
-    let b = turns_grow budget n (take_turn m (next_turn budget m)) in
-    (a.0 ++ b.0, b.1 ∙ ap (λ l. l ++ b.0) a.1 ∙ append_assoc m.log a.0 b.0)
+    let b = turns_grow budget n (take_turn m (next_turn budget m)) in grind (arith, append_assoc)
 
 -- ---- the first two turns ----
 
@@ -56,9 +55,7 @@ second_turn budget memory start rest free = refl
 after_first : (budget n : ℕ) (memory : List ℕ) (start : ℕ) (rest : List (ℕ × ℕ)) (free : List ℕ)
     → turns budget (suc n) (begun memory ((start, 0) ∷ rest) free) ≡ turns budget n (asked memory start rest free)
 unfolding turns take_turn begun
-after_first budget n memory start rest free =
-    ap (λ t. turns budget n (take_turn (begun memory ((start, 0) ∷ rest) free) t))
-    (first_turn budget memory start rest free)
+after_first budget n memory start rest free = simp first_turn
 
 -- the moment after the second turn, with the package within memory or not
 abbrev entered : Bool → List ℕ → ℕ → List (ℕ × ℕ) → List ℕ → Moment
@@ -80,9 +77,7 @@ comes_again : (budget n : ℕ) (memory : List ℕ) (start : ℕ) (rest : List (�
 unfolding turns
 comes_again budget zero memory start rest free f = refl
 comes_again budget (suc n) memory start rest free f =
-    after_second budget n memory start rest free
-    ∙ ap (λ b. turns budget n (entered b memory start rest free)) f
-    ∙ comes_again budget n memory start rest free f
+    grind (arith, comes_again budget n memory start rest free f, after_second)
 
 -- ---- to the end ----
 
@@ -91,42 +86,24 @@ from_entered : (budget n : ℕ) (memory : List ℕ) (start : ℕ) (rest : List (
     → turns budget n (entered b memory start rest free) ≡ last → next_turn budget last ≡ Ends
     → (more : List LogStep) × (last.log ≡ Exchanged start ∷ more)
 from_entered budget n memory start rest free last true f r e =
-    let g = turns_grow budget n (entered true memory start rest free) in
-    (g.0, sym (ap (λ m. m.log) r) ∙ g.1)
-from_entered budget n memory start rest free last false f r e =
-    let k : Exchanges start ≡ Ends = sym (second_turn budget memory start rest free)
-    ∙ ap (next_turn budget) (sym (comes_again budget n memory start rest free f) ∙ r) ∙ e in
-    absurd (cc)
+    grind (arith, turns_grow budget n (entered true memory start rest free))
+from_entered budget n memory start rest free last false f r e = grind (arith, second_turn, comes_again)
 
 from_asked : (budget n : ℕ) (memory : List ℕ) (start : ℕ) (rest : List (ℕ × ℕ)) (free : List ℕ) (last : Moment)
     → turns budget n (asked memory start rest free) ≡ last → next_turn budget last ≡ Ends
     → (more : List LogStep) × (last.log ≡ Exchanged start ∷ more)
 unfolding turns
-from_asked budget zero memory start rest free last r e =
-    let k : Exchanges start ≡ Ends =
-    sym (second_turn budget memory start rest free) ∙ ap (next_turn budget) r ∙ e in
-    absurd (cc)
-from_asked budget (suc n) memory start rest free last r e =
-    from_entered budget n memory start rest free last _ refl (sym (after_second budget n memory start rest free) ∙ r) e
+from_asked budget n memory start rest free last r e = grind (arith, second_turn, from_entered, after_second)
 
 from_begun : (budget n : ℕ) (memory : List ℕ) (start : ℕ) (rest : List (ℕ × ℕ)) (free : List ℕ) (last : Moment)
     → turns budget n (begun memory ((start, 0) ∷ rest) free) ≡ last → next_turn budget last ≡ Ends
     → (more : List LogStep) × (last.log ≡ Exchanged start ∷ more)
 unfolding turns
-from_begun budget zero memory start rest free last r e =
-    let k : Asks start ≡ Ends =
-    sym (first_turn budget memory start rest free) ∙ ap (next_turn budget) r ∙ e in
-    absurd (cc)
-from_begun budget (suc n) memory start rest free last r e =
-    from_asked budget n memory start rest free last (sym (after_first budget n memory start rest free) ∙ r) e
+from_begun budget n memory start rest free last r e = grind (arith, first_turn, from_asked, after_first)
 
 -- a law of the definition: the log of a run begins with the exchange for the first package
 pub run_begins : (memory : List ℕ) (start : ℕ) (after : List (ℕ × ℕ)) (free : List ℕ) (budget : ℕ)
     (log : List LogStep) (s : State) → IsSequentialRun memory start after free budget log s
     → (more : List LogStep) × (log ≡ Exchanged start ∷ more)
 run_begins memory start after free budget log s r =
-    let f = start_first start after r.asks r.ordered.in_order r.ordered.same in
-    let e : EndsAt budget (begun memory ((start, 0) ∷ f.0) free) r.last =
-    subst (λ a. EndsAt budget (begun memory a free) r.last) f.1 r.ends in
-    let b = from_begun budget e.count memory start f.0 free r.last e.reached e.ends in
-    (b.0, r.log_is ∙ b.1)
+    let f = start_first start after r.asks r.ordered.in_order r.ordered.same in grind (arith, from_begun)

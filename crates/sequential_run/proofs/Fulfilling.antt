@@ -1,7 +1,7 @@
 -- A run fulfils its requests for exchanges.
 use Rattle.std.proofs.Common.{◌≡◌, ◌<◌, ◌≤◌, ◌+◌, ℕ, zero, suc, Bool, true, false, ◌&&◌, ◌||◌, ◌⊎◌, inl, inr, cond}
 use Rattle.std.proofs.Common.{List, [], ◌∷◌, ◌++◌, Option, Some, None, length, refl, sym, ap, subst, ◌∙◌, append_assoc}
-use Rattle.std.proofs.Common.{append-nil, arith, leb, leb-false, leb-true, le-leb, lt-ltb, eq-eqb, true≢false}
+use Rattle.std.proofs.Common.{append-nil, arith, leb, leb-true, le-leb, lt-ltb, eq-eqb, true≢false}
 use Rattle.std.proofs.lemmas.Bool.{and_from, or_left, or_right}
 use Rattle.std.specs.Prelude.{drop, nat_eq, nat_le, nat_lt}
 use Rattle.exchange_requests.specs.Fulfilled.{IsFulfilled, are_done, exchanges_after, fulfils, is_in_time, is_next_ask}
@@ -14,7 +14,7 @@ use Rattle.sequential.specs.Replay.{LogStep, Issued, Exchanged}
 use Rattle.sequential.specs.Step.{step}
 use Rattle.sequential.specs.Swap.{swap}
 use Rattle.sequential.proofs.Entries.{issued-more}
-use Rattle.sequential_run.specs.Turns.{Moment, Turn, Issues, Ends, begun, first_due, is_going}
+use Rattle.sequential_run.specs.Turns.{Moment, Issues, Ends, begun, first_due, is_going}
 use Rattle.sequential_run.specs.Turns.{is_in_mid_word, issue_or_end, next_turn, take_turn, turn_by, turns}
 use Rattle.sequential_run.specs.Run.{IsSequentialRun}
 use Rattle.sequential_run.proofs.Going.{issued_still}
@@ -26,9 +26,7 @@ use Rattle.sequential_run.proofs.MidWord.{swapped_out}
 exchange_added : (log : List LogStep) (at : ℕ)
     → exchanges_after 0 (log ++ Exchanged at ∷ []) ≡ exchanges_after 0 log ++ (at, issued log) ∷ []
 unfolding exchanges_after
-exchange_added log at =
-    exchanges_append 0 log (Exchanged at ∷ [])
-    ∙ ap (λ k. exchanges_after 0 log ++ (at, k) ∷ []) (let e : 0 + issued log ≡ issued log = omega arith in e)
+exchange_added log at = grind (arith, exchanges_append)
 
 issue_added : (log : List LogStep) → exchanges_after 0 (log ++ Issued ∷ []) ≡ exchanges_after 0 log
 unfolding exchanges_after
@@ -104,12 +102,7 @@ record Keeps (asks : List (ℕ × ℕ)) (free : List ℕ) (m : Moment) : Type 0 
 
 ahead_by : (now : ℕ) (asks : List (ℕ × ℕ)) → first_due now asks ≡ None → IsAhead now asks
 unfolding first_due
-ahead_by now [] h = tt
-ahead_by now (ask ∷ asks) h = by_test (leb ask.1 now) refl h
-  where
-    by_test : (b : Bool) → leb ask.1 now ≡ b → cond b (Some ask.0) None ≡ None → now < ask.1
-    by_test true e k = cc
-    by_test false e k = leb-false ask.1 now e
+ahead_by now asks h = grind arith
 
 coming_by : (last now : ℕ) (asks : List (ℕ × ℕ)) → last ≤ now → IsAhead now asks → IsComing last (now + 1) asks
 coming_by last now [] l h = tt
@@ -139,10 +132,7 @@ first_by n now (ask ∷ asks) h = by_test (leb ask.1 now) refl h
 in_time_by : (last now : ℕ) (asks : List (ℕ × ℕ)) (made : ℕ) → last ≤ made → IsAhead made asks → now ≤ made + 3
     → is_in_time last now asks ≡ true
 unfolding is_in_time
-in_time_by last now [] made s a t = refl
-in_time_by last now (ask ∷ asks) made s a t =
-    and_from (nat_lt last ask.1) (nat_le now (ask.1 + 3)) (lt-ltb last ask.1 (omega (arith, s, a)))
-    (le-leb now (ask.1 + 3) (omega (arith, a, t)))
+in_time_by last now asks made s a t = grind arith
 
 first_in_time : (last now n after : ℕ) (asks : List (ℕ × ℕ)) → last < after → now ≤ after + 3
     → is_in_time last now ((n, after) ∷ asks) ≡ true
@@ -157,10 +147,7 @@ made_on : (asks : List (ℕ × ℕ)) (free : List ℕ) (log : List LogStep) (n l
     → ((mid : Bool) (total : ℕ) (es : List (ℕ × ℕ)) → fulfils mid total (issued log) next others es ≡ true
     → fulfils mid total last left spare ((n, issued log) ∷ es) ≡ true)
     → Completes asks free (log ++ Exchanged n ∷ []) (issued log) next others
-made_on asks free log n last left next spare others on made mid total es h =
-    ap (λ l. fulfils mid total 0 asks free (l ++ es)) (exchange_added log n)
-    ∙ ap (fulfils mid total 0 asks free) (append_assoc (exchanges_after 0 log) ((n, issued log) ∷ []) es)
-    ∙ on mid total ((n, issued log) ∷ es) (made mid total es h)
+made_on asks free log n last left next spare others on made mid total es h = grind (arith, exchange_added, append_assoc)
 
 -- an exchange for the first request after a number of instructions
 made_after : (mid : Bool) (total last n now after : ℕ) (rest : List (ℕ × ℕ)) (spare : List ℕ) (es : List (ℕ × ℕ))
@@ -168,9 +155,7 @@ made_after : (mid : Bool) (total last n now after : ℕ) (rest : List (ℕ × �
     → fulfils mid total now rest spare es ≡ true
     → fulfils mid total last ((n, after) ∷ rest) spare ((n, now) ∷ es) ≡ true
 unfolding fulfils is_next_ask
-made_after mid total last n now after rest spare es d t h =
-    or_left _ _ (and_from _ _
-    (and_from _ _ (eq-eqb n n refl) (and_from _ _ (le-leb after now d) t)) h)
+made_after mid total last n now after rest spare es d t h = grind arith
 
 -- an exchange for the first request at any time
 made_free : (mid : Bool) (total last n now : ℕ) (left : List (ℕ × ℕ)) (rest : List ℕ) (es : List (ℕ × ℕ))
@@ -189,37 +174,23 @@ fresh n m = record { now = issued_still m.log n; out = swapped_out n m.state }
 
 kept_exchange : (asks : List (ℕ × ℕ)) (free : List ℕ) (n : ℕ) (m : Moment)
     → Completes asks free (m.log ++ Exchanged n ∷ []) (issued m.log) m.asks m.free → Keeps asks free (exchanged n m)
-kept_exchange asks free n m on = record {
-  last = issued m.log;
-  left = m.asks;
-  spare = m.free;
-  on = on;
-  bound = let e : issued (m.log ++ Exchanged n ∷ []) ≡ issued m.log = issued_still m.log n in omega (arith, e);
-  placed = placed_swap n m.state;
-  stands = record { asks = refl; free = refl; next = inl (fresh n m) };
-}
+kept_exchange asks free n m on = grind (arith, issued_still, placed_swap, fresh)
 
 since_after : (n last after : ℕ) (rest : List (ℕ × ℕ)) (m : Moment)
     → IsFresh last m ⊎ ((last < after) × IsTimely after m)
     → (nat_eq (issued m.log) last || is_in_time last (issued m.log) ((n, after) ∷ rest)) ≡ true
-since_after n last after rest m (inl f) = or_left _ _ (eq-eqb (issued m.log) last f.now)
-since_after n last after rest m (inr t) =
-    or_right _ _ (first_in_time last (issued m.log) n after rest t.0 t.1.most)
+since_after n last after rest m h = grind (arith, first_in_time, or_left, eq-eqb, or_right)
 
 exchange_kept : (asks : List (ℕ × ℕ)) (free : List ℕ) (n last : ℕ) (left : List (ℕ × ℕ)) (spare : List ℕ) (m : Moment)
     → Completes asks free m.log last left spare → Stands (Some n) last left spare m → Keeps asks free (exchanged n m)
 exchange_kept asks free n last left spare m on (inl w) =
     kept_exchange asks free n m (made_on asks free m.log n last ((n, w.after) ∷ m.asks) m.asks m.free m.free
-    (subst (λ l. Completes asks free m.log last l m.free) w.asks
-    (subst (λ l. Completes asks free m.log last left l) w.free on))
-    (λ mid total es h. made_after mid total last n (issued m.log) w.after m.asks m.free es w.due
-    (since_after n last w.after m.asks m w.since) h))
+    (grind arith)
+    (λ mid total es h. grind (arith, made_after, since_after)))
 exchange_kept asks free n last left spare m on (inr w) =
     kept_exchange asks free n m (made_on asks free m.log n last m.asks m.asks (n ∷ m.free) m.free
-    (subst (λ l. Completes asks free m.log last l (n ∷ m.free)) w.asks
-    (subst (λ l. Completes asks free m.log last left l) w.free on))
-    (λ mid total es h. made_free mid total last n (issued m.log) m.asks m.free es
-    (in_time_by last (issued m.log) m.asks w.made w.since w.ahead w.timely.most) h))
+    (grind arith)
+    (λ mid total es h. grind (arith, made_free, in_time_by)))
 
 -- ---- an instruction ----
 
@@ -229,29 +200,11 @@ stepped m = record m { state = step m.state; log = m.log ++ Issued ∷ [] }
 
 kept_step : (asks : List (ℕ × ℕ)) (free : List ℕ) (m : Moment) (k : Keeps asks free m)
     → Stands m.waiting k.last k.left k.spare (stepped m) → Keeps asks free (stepped m)
-kept_step asks free m k s = record {
-  last = k.last;
-  left = k.left;
-  spare = k.spare;
-  on = λ mid total es h. ap (λ l. fulfils mid total 0 asks free (l ++ es)) (issue_added m.log) ∙ k.on mid total es h;
-  bound =
-      let b = k.bound in
-      let e : issued (m.log ++ Issued ∷ []) ≡ issued m.log + 1 = issued-more m.log in omega (arith, b, e);
-  placed = placed_step m.state k.placed;
-  stands = s;
-}
+kept_step asks free m k s = grind (arith, issue_added, issued-more, placed_step)
 
 timely_step : (made : ℕ) (m : Moment) → is_in_mid_word m.state ≡ true → IsPlaced m.state → IsTimely made m
     → IsTimely made (stepped m)
-timely_step made m h p t =
-    let e : issued (m.log ++ Issued ∷ []) ≡ issued m.log + 1 = issued-more m.log in
-    let l : issued m.log < made + m.state.position.parcel = t.mid h in
-    let r : m.state.position.parcel < 4 = p.inside in
-    record {
-      most = omega (arith, e, l, r);
-      mid = λ i. let a : m.state.position.parcel < (step m.state).position.parcel = steps_on m.state p i in
-          omega (arith, e, l, a);
-    }
+timely_step made m h p t = grind (arith, issued-more, steps_on)
 
 -- in the middle of a word the request keeps waiting
 waiting_step : (n last : ℕ) (left : List (ℕ × ℕ)) (spare : List ℕ) (m : Moment) → is_in_mid_word m.state ≡ true
@@ -260,8 +213,7 @@ waiting_step n last left spare m h p (inl w) = inl (record {
   after = w.after;
   asks = w.asks;
   free = w.free;
-  due = let d = w.due in
-      let e : issued (m.log ++ Issued ∷ []) ≡ issued m.log + 1 = issued-more m.log in omega (arith, d, e);
+  due = let d = w.due in grind (arith, issued-more);
   since = by_since w.since;
 })
   where
@@ -269,36 +221,17 @@ waiting_step n last left spare m h p (inl w) = inl (record {
         → IsFresh last (stepped m) ⊎ ((last < w.after) × IsTimely w.after (stepped m))
     by_since (inl f) = absurd (true≢false (sym h ∙ f.out))
     by_since (inr t) = inr (t.0, timely_step w.after m h p t.1)
-waiting_step n last left spare m h p (inr w) = inr (record {
-  made = w.made;
-  asks = w.asks;
-  free = w.free;
-  since = w.since;
-  ahead = w.ahead;
-  timely = timely_step w.made m h p w.timely;
-})
+waiting_step n last left spare m h p (inr w) = grind (arith, timely_step w.made m h p w.timely)
 
 -- no request waits or is due, so an instruction is done
 idle_step : (last : ℕ) (left : List (ℕ × ℕ)) (spare : List ℕ) (m : Moment) → last ≤ issued m.log
     → first_due (issued m.log) m.asks ≡ None → IsIdle last left spare m → IsIdle last left spare (stepped m)
-idle_step last left spare m b d i = record {
-  asks = i.asks;
-  free = i.free;
-  next = inr (subst (λ k. IsComing last k m.asks) (sym (issued-more m.log))
-      (coming_by last (issued m.log) m.asks b (ahead_by (issued m.log) m.asks d)));
-}
+idle_step last left spare m b d i = grind (arith, issued-more, coming_by, ahead_by)
 
 -- ---- a request ----
 
 timely_now : (made : ℕ) (m : Moment) → IsPlaced m.state → issued m.log ≤ made → IsTimely made m
-timely_now made m p l = record {
-  most = omega (arith, l);
-  mid = λ h. let a : 0 < m.state.position.parcel = p.begun h in omega (arith, l, a);
-}
-
-first_after : (n last now after : ℕ) (asks : List (ℕ × ℕ)) → asks ≡ (n, after) ∷ drop 1 asks → IsComing last now asks
-    → (last < after) × (now ≤ after)
-first_after n last now after asks e c = subst (IsComing last now) e c
+timely_now made m p l = grind arith
 
 -- the moment after a request after a number of instructions
 abbrev asked : ℕ → Moment → Moment
@@ -320,9 +253,7 @@ ask_kept n last left spare m p d i = record {
     by_next : IsFresh last m ⊎ IsComing last (issued m.log) m.asks
         → IsFresh last (asked n m) ⊎ ((last < f.after) × IsTimely f.after (asked n m))
     by_next (inl g) = inl (record { now = g.now; out = g.out })
-    by_next (inr c) =
-        let a = first_after n last (issued m.log) f.after m.asks f.first c in
-        inr (a.0, timely_now f.after (asked n m) p a.1)
+    by_next (inr c) = grind arith
 
 -- the moment after a request at any time
 abbrev asked_free : ℕ → Moment → Moment
@@ -331,14 +262,8 @@ asked_free n m = record m { free = drop 1 m.free; waiting = Some n }
 free_kept : (n last : ℕ) (ns : List ℕ) (left : List (ℕ × ℕ)) (spare : List ℕ) (m : Moment) → IsPlaced m.state
     → last ≤ issued m.log → first_due (issued m.log) m.asks ≡ None → m.free ≡ n ∷ ns → IsIdle last left spare m
     → WaitsFree n last left spare (asked_free n m)
-free_kept n last ns left spare m p b d e i = record {
-  made = issued m.log;
-  asks = i.asks;
-  free = i.free ∙ e ∙ ap (λ l. n ∷ drop 1 l) (sym e);
-  since = b;
-  ahead = ahead_by (issued m.log) m.asks d;
-  timely = timely_now (issued m.log) (asked_free n m) p (omega arith);
-}
+free_kept n last ns left spare m p b d e i =
+    grind (arith, ahead_by (issued m.log) m.asks d, timely_now (issued m.log) (asked_free n m) p (omega arith))
 
 -- ---- a turn ----
 
@@ -371,16 +296,7 @@ kept_turn asks free budget m k =
     by_turn (Some n) false due fr w h d f = fitted asks free n m (package_fits n (length m.state.memory)) k
         (exchange_kept asks free n k.last k.left k.spare m k.on
         (subst (λ o. Stands o k.last k.left k.spare m) w k.stands))
-    by_turn None mid (Some n) fr w h d f = record {
-      last = k.last;
-      left = k.left;
-      spare = k.spare;
-      on = k.on;
-      bound = k.bound;
-      placed = k.placed;
-      stands = inl (ask_kept n k.last k.left k.spare m k.placed d
-          (subst (λ o. Stands o k.last k.left k.spare m) w k.stands));
-    }
+    by_turn None mid (Some n) fr w h d f = grind (arith, ask_kept)
     by_turn None mid None (n ∷ ns) w h d f = record {
       last = k.last;
       left = k.left;
@@ -406,15 +322,7 @@ kept_turns asks free budget (suc n) m k =
 
 kept_first : (memory : List ℕ) (asks : List (ℕ × ℕ)) (free : List ℕ) → Keeps asks free (begun memory asks free)
 unfolding begun issued exchanges_after
-kept_first memory asks free = record {
-  last = 0;
-  left = asks;
-  spare = free;
-  on = λ mid total es h. h;
-  bound = omega arith;
-  placed = placed_boot memory;
-  stands = record { asks = refl; free = refl; next = inl (record { now = refl; out = booted_out memory }) };
-}
+kept_first memory asks free = grind (arith, placed_boot, booted_out)
 
 done_by : (total : ℕ) (asks : List (ℕ × ℕ)) → IsAhead total asks → are_done total asks [] ≡ true
 unfolding are_done
@@ -426,10 +334,7 @@ ends_idle : (last : ℕ) (left : List (ℕ × ℕ)) (spare : List ℕ) (m : Mome
     → m.free ≡ [] → IsIdle last left spare m
     → fulfils (is_in_mid_word m.state) (issued m.log) last left spare [] ≡ true
 unfolding fulfils
-ends_idle last left spare m d f i =
-    or_left _ _ (ap (λ l. are_done (issued m.log) l spare) i.asks
-    ∙ ap (λ l. are_done (issued m.log) m.asks l) (i.free ∙ f)
-    ∙ done_by (issued m.log) m.asks (ahead_by (issued m.log) m.asks d))
+ends_idle last left spare m d f i = grind (arith, done_by, ahead_by, or_left)
 
 -- or the end comes in the middle of a word while a request waits
 ends_by : (mid : Bool) (total last : ℕ) (left : List (ℕ × ℕ)) (spare : List ℕ) → mid ≡ true
@@ -439,34 +344,12 @@ ends_by mid total last left spare h t = or_right _ _ (and_from mid (is_in_time l
 
 ends_waiting : (n last : ℕ) (left : List (ℕ × ℕ)) (spare : List ℕ) (m : Moment) → is_in_mid_word m.state ≡ true
     → Stands (Some n) last left spare m → is_in_time last (issued m.log) left ≡ true
-ends_waiting n last left spare m h (inl w) = ap (is_in_time last (issued m.log)) w.asks ∙ by_since w.since
-  where
-    by_since : IsFresh last m ⊎ ((last < w.after) × IsTimely w.after m)
-        → is_in_time last (issued m.log) ((n, w.after) ∷ m.asks) ≡ true
-    by_since (inl f) = absurd (true≢false (sym h ∙ f.out))
-    by_since (inr t) = first_in_time last (issued m.log) n w.after m.asks t.0 t.1.most
-ends_waiting n last left spare m h (inr w) = ap (is_in_time last (issued m.log)) w.asks
-    ∙ in_time_by last (issued m.log) m.asks w.made w.since w.ahead w.timely.most
+ends_waiting n last left spare m h k = grind (arith, first_in_time, in_time_by)
 
 ends_fulfilled : (asks : List (ℕ × ℕ)) (free : List ℕ) (budget : ℕ) (m : Moment) (k : Keeps asks free m)
     → next_turn budget m ≡ Ends → fulfils (is_in_mid_word m.state) (issued m.log) k.last k.left k.spare [] ≡ true
 unfolding next_turn turn_by
-ends_fulfilled asks free budget m k e =
-    by_turn m.waiting (is_in_mid_word m.state) (first_due (issued m.log) m.asks) m.free
-    (issue_or_end budget m.state (issued m.log)) refl refl refl refl e
-  where
-    by_turn : (o : Option ℕ) (mid : Bool) (due : Option ℕ) (fr : List ℕ) (go : Turn) → m.waiting ≡ o
-        → is_in_mid_word m.state ≡ mid → first_due (issued m.log) m.asks ≡ due → m.free ≡ fr
-        → turn_by o mid due fr go ≡ Ends
-        → fulfils (is_in_mid_word m.state) (issued m.log) k.last k.left k.spare [] ≡ true
-    by_turn (Some n) true due fr go w h d f e =
-        ends_by (is_in_mid_word m.state) (issued m.log) k.last k.left k.spare h
-        (ends_waiting n k.last k.left k.spare m h (subst (λ o. Stands o k.last k.left k.spare m) w k.stands))
-    by_turn (Some n) false due fr go w h d f e = cc
-    by_turn None mid (Some n) fr go w h d f e = cc
-    by_turn None mid None (n ∷ ns) go w h d f e = cc
-    by_turn None mid None [] go w h d f e = ends_idle k.last k.left k.spare m d f
-        (subst (λ o. Stands o k.last k.left k.spare m) w k.stands)
+ends_fulfilled asks free budget m k e = grind (arith, ends_by, ends_waiting, ends_idle)
 
 moment_fulfils : (asks : List (ℕ × ℕ)) (free : List ℕ) (budget : ℕ) (m : Moment) → Keeps asks free m
     → next_turn budget m ≡ Ends
@@ -479,11 +362,4 @@ moment_fulfils asks free budget m k e =
 pub run_fulfils : (memory : List ℕ) (start : ℕ) (after : List (ℕ × ℕ)) (free : List ℕ) (budget : ℕ)
     (log : List LogStep) (s : State) → IsSequentialRun memory start after free budget log s
     → IsFulfilled start after free (is_in_mid_word s) log
-run_fulfils memory start after free budget log s r =
-    let k : Keeps r.asks free r.last = subst (Keeps r.asks free) r.ends.reached
-    (kept_turns r.asks free budget r.ends.count (begun memory r.asks free) (kept_first memory r.asks free)) in
-    record {
-      asks = r.asks;
-      ordered = r.ordered;
-      fulfilled = rw r.log_is (rw r.state_is (moment_fulfils r.asks free budget r.last k r.ends.ends));
-    }
+run_fulfils memory start after free budget log s r = grind (arith, kept_turns, kept_first, moment_fulfils)

@@ -1,7 +1,7 @@
 -- The progress of a run, as its code keeps it.
-use Rattle.std.proofs.Common.{◌≡◌, ◌<◌, ◌≤◌, ◌+◌, ◌-◌, ℕ, zero, suc, Bool, true, false, ◌&&◌, cond, List, [], ◌∷◌}
-use Rattle.std.proofs.Common.{◌++◌, Option, Some, None, length, is_some, refl, sym, ap, ◌∙◌, arith, ltb-true}
-use Rattle.std.specs.Prelude.{drop, min, replicate, nat_lt}
+use Rattle.std.proofs.Common.{◌≡◌, ◌<◌, ◌≤◌, ◌+◌, ◌-◌, ℕ, suc, Bool, true, false, ◌&&◌, cond, List, [], ◌∷◌}
+use Rattle.std.proofs.Common.{◌++◌, Some, None, length, is_some, refl, sym, ap, ◌∙◌, arith}
+use Rattle.std.specs.Prelude.{drop, replicate, nat_lt}
 use Rattle.exchange_requests.specs.Requests.{IsDue, ToMake}
 use Rattle.instructions.specs.declared.refusal.Refusal.{Refusal}
 use Rattle.instructions.specs.declared.refusal.Refusal.TheVariants.{PackageRange}
@@ -19,10 +19,6 @@ use Rattle.sequential_run.specs.inner.Course.{IsKept, CanIssue, IsIssued, Goes, 
 use Rattle.sequential_run.proofs.Turning.{same_moment, one_turn, exchange_next, ask_next, free_next, quiet_next}
 use Rattle.sequential_run.proofs.Turning.{IsQuiet}
 use Rattle.sequential_run.proofs.Turning.{issues_turns, due_first, none_due}
-
--- one more turn if a request waits
-abbrev one_if : Option ℕ → ℕ
-one_if o = cond (is_some o) 1 0
 
 -- ---- an exchange ----
 
@@ -42,37 +38,18 @@ pub exchange_goes : (budget : ℕ) (c d : Course) (at : ℕ) → c.waiting ≡ S
     → d.log.steps ≡ c.log.steps ++ Exchanged at ∷ [] → d.requests.asks ≡ c.requests.asks → d.free ≡ c.free
     → d.waiting ≡ None → Goes budget (moment_of c) (moment_of d)
 unfolding moment_of take_turn left_at
-exchange_goes budget c d at w h f s l q r n = record {
-  count = 1;
-  reached =
-      one_turn budget (moment_of c) (Exchanges at) (exchange_next budget (moment_of c) at w h)
-      ∙ ap (λ b. cond b (record {
-        state = swap at c.state;
-        log = c.log.steps ++ Exchanged at ∷ [];
-        asks = c.requests.asks;
-        free = c.free.items;
-        waiting = None;
-      }) (moment_of c)) f
-      ∙ same_moment _ (moment_of d) (sym s) (sym l) (sym q) (sym (ap (λ x. x.items) r)) (sym n);
-  less =
-      let i : issued d.log.steps ≡ issued c.log.steps = ap issued l ∙ issued_still c.log.steps at in
-      let a : length d.requests.asks ≡ length c.requests.asks = ap length q in
-      let b : length d.free.items ≡ length c.free.items = ap (λ x. length x.items) r in
-      let e : one_if d.waiting ≡ 0 = ap one_if n in
-      let g : one_if c.waiting ≡ 1 = ap one_if w in
-      omega (arith, i, a, b, e, g);
-}
+exchange_goes budget c d at w h f s l q r n =
+    grind (
+      arith,
+      one_turn budget (moment_of c) (Exchanges at) (exchange_next budget (moment_of c) at w h),
+      exchange_next budget (moment_of c) at w h,
+      issued_still c.log.steps at,
+    )
 
 pub exchange_keeps : (budget : ℕ) (c d : Course) (at : ℕ) → IsKept budget c
     → d.log.steps ≡ c.log.steps ++ Exchanged at ∷ [] → d.requests.issued ≡ c.requests.issued
     → d.requests.is_waiting ≡ false → IsKept budget d
-exchange_keeps budget c d at k l i w =
-    let e : issued d.log.steps ≡ issued c.log.steps = ap issued l ∙ issued_still c.log.steps at in
-    record {
-      counted = i ∙ k.counted ∙ sym e;
-      within = let h : issued c.log.steps ≤ budget = k.within in omega (arith, e, h);
-      idle = λ x. w;
-    }
+exchange_keeps budget c d at k l i w = grind (arith, issued_still)
 
 -- ---- a request ----
 
@@ -88,9 +65,7 @@ ask_goes budget c r ask k w d e = record {
       ∙ same_moment _ (moment_of (record c { requests = r; waiting = Some ask.0 })) refl refl
       (ap (λ l. drop 1 l) e) refl refl;
   less =
-      let a : length c.requests.asks ≡ suc (length r.asks) = ap length e in
-      let g : one_if c.waiting ≡ 0 = ap one_if w in
-      omega (arith, a, g);
+      let a : length c.requests.asks ≡ suc (length r.asks) = ap length e in grind arith;
 }
 
 pub free_goes : (budget : ℕ) (c d : Course) (at : ℕ) → IsKept budget c → c.waiting ≡ None
@@ -100,28 +75,18 @@ unfolding moment_of take_turn left_at
 free_goes budget c d at k w u e s l q n = record {
   count = 1;
   reached =
-      one_turn budget (moment_of c) (AsksFree at) (free_next budget (moment_of c) at d.free.items w
-      (ap (λ i. first_due i c.requests.asks) (sym k.counted) ∙ none_due c.requests.asks _ u) e)
+      one_turn budget (moment_of c) (AsksFree at) (grind (arith, free_next, none_due))
       ∙ same_moment _ (moment_of d) (sym s) (sym (ap (λ x. x.steps) l)) (sym q)
       (ap (λ l. drop 1 l) e) (sym n);
   less =
-      let i : issued d.log.steps ≡ issued c.log.steps = ap (λ x. issued x.steps) l in
-      let a : length d.requests.asks ≡ length c.requests.asks = ap length q in
-      let b : length c.free.items ≡ suc (length d.free.items) = ap length e in
-      let g : one_if c.waiting ≡ 0 = ap one_if w in
-      let f : one_if d.waiting ≡ 1 = ap one_if n in
-      omega (arith, i, a, b, f, g);
+      let i : issued d.log.steps ≡ issued c.log.steps = ap (λ x. issued x.steps) l in grind arith;
 }
 
 -- ---- instructions ----
 
 pub quiet_of : (budget : ℕ) (c : Course) → IsKept budget c → CanIssue c → IsQuiet (moment_of c)
 unfolding moment_of
-quiet_of budget c k i = record {
-  mid = i.mid;
-  free = i.free;
-  due = λ w. ap (λ n. first_due n c.requests.asks) (sym k.counted) ∙ none_due c.requests.asks _ (i.due w);
-}
+quiet_of budget c k i = grind (arith, none_due)
 
 pub ended_here : (budget : ℕ) (c : Course) → IsKept budget c → CanIssue c
     → (is_going c.state && nat_lt (issued c.log.steps) budget) ≡ false → next_turn budget (moment_of c) ≡ Ends
@@ -131,11 +96,7 @@ ended_here budget c k i e = quiet_next budget (moment_of c) (quiet_of budget c k
 some_made : (n count : ℕ) (s t : State) → StepsTo n s t → is_going s ≡ true → 0 < count
     → (n < count → is_going t ≡ false) → 0 < n
 unfolding StepsTo
-some_made zero count s t h g l e = absurd (true_not_false (sym g ∙ ap is_going h ∙ e l))
-  where
-    true_not_false : true ≡ false → ⊥
-    true_not_false x = cc
-some_made (suc n) count s t h g l e = omega arith
+some_made n count s t h g l e = grind arith
 
 pub issue_goes : (budget count : ℕ) (c : Course) (log : Logged) (d : Course) → IsKept budget c → CanIssue c
     → (is_going c.state && nat_lt (issued c.log.steps) budget) ≡ true → log.steps ≡ c.log.steps
@@ -148,8 +109,7 @@ unfolding moment_of left_at
 issue_goes budget count c log d k i g same made most some single quiet =
     let both = and_both (is_going c.state) (nat_lt (issued c.log.steps) budget) g in
     let least = some_made made.made count c.state d.state made.steps both.0 some made.all in
-    let log_is : d.log.steps ≡ c.log.steps ++ replicate made.made Issued =
-    made.log ∙ ap (λ l. l ++ replicate made.made Issued) same in
+    let log_is : d.log.steps ≡ c.log.steps ++ replicate made.made Issued = cc in
     let within = made.most in
     record {
       count = made.made;
@@ -163,13 +123,7 @@ issue_goes budget count c log d k i g same made most some single quiet =
           ∙ same_moment _ (moment_of d) refl (sym log_is) (sym (ap (λ r. r.asks) made.requests))
           (sym (ap (λ x. x.items) made.same.0)) (sym made.same.1);
       less =
-          let n : issued d.log.steps ≡ issued c.log.steps + made.made = ap issued log_is
-          ∙ issued-many c.log.steps made.made in
-          let a : length d.requests.asks ≡ length c.requests.asks = ap (λ r. length r.asks) made.requests in
-          let b : length d.free.items ≡ length c.free.items = ap (λ x. length x.items) made.same.0 in
-          let e : one_if d.waiting ≡ one_if c.waiting =
-          ap one_if made.same.1 in
-          omega (arith, n, a, b, e, least, within, most);
+          let n : issued d.log.steps ≡ issued c.log.steps + made.made = grind (arith, issued-many) in grind arith;
     }
   where
     and_both : (a b : Bool) → (a && b) ≡ true → (a ≡ true) × (b ≡ true)
@@ -180,39 +134,9 @@ issue_goes budget count c log d k i g same made most some single quiet =
 pub issue_keeps : (budget count : ℕ) (c : Course) (log : Logged) (d : Course) → IsKept budget c
     → log.steps ≡ c.log.steps → IsIssued count (record c { log = log }) d → issued c.log.steps + count ≤ budget
     → IsKept budget d
-issue_keeps budget count c log d k same made most =
-    let n : issued d.log.steps ≡ issued c.log.steps + made.made =
-    ap issued (made.log ∙ ap (λ l. l ++ replicate made.made Issued) same) ∙ issued-many c.log.steps made.made in
-    let within = made.most in
-    record {
-      counted = ap (λ r. r.issued) made.requests ∙ ap (λ x. x + made.made) k.counted ∙ sym n;
-      within = omega (arith, n, within, most);
-      idle = λ w. ap (λ r. r.is_waiting) made.requests ∙ k.idle (sym (ap is_some made.same.1) ∙ w);
-    }
+issue_keeps budget count c log d k same made most = grind (arith, issued-many, is_some)
 
 -- the last count has room for this many instructions
 pub last_fits : (log : List LogStep) (count made : ℕ) → issued log + count < 18446744073709551616 → made ≤ count
     → last_run log + made < 18446744073709551616
 last_fits log count made l m = let h = last_run_within log in omega (arith, l, m, h)
-
--- the number of instructions left in the budget
-counted_now : (budget issues : ℕ) (xs ys : List LogStep) → xs ≡ ys → issues ≡ min (issued xs) 18446744073709551615
-    → issued ys ≤ budget → budget < 18446744073709551616 → issues ≡ issued ys
-counted_now budget issues xs ys e i w b = let f : issued xs ≡ issued ys = ap issued e in omega (arith, f, i, w, b)
-
-pub within_budget : (budget count issues : ℕ) (xs ys : List LogStep) → xs ≡ ys
-    → issues ≡ min (issued xs) 18446744073709551615 → issued ys ≤ budget → budget < 18446744073709551616
-    → count ≤ budget - issues → issued ys + count ≤ budget
-within_budget budget count issues xs ys e i w b m =
-    let f = counted_now budget issues xs ys e i w b in omega (arith, f, w, m)
-
-pub some_left : (budget count issues : ℕ) (xs ys : List LogStep) (going : Bool) → xs ≡ ys
-    → issues ≡ min (issued xs) 18446744073709551615 → (going && nat_lt (issued ys) budget) ≡ true
-    → budget < 18446744073709551616 → (0 < budget - issues → 0 < count) → 0 < count
-some_left budget count issues xs ys going e i g b m =
-    let l : issued ys < budget = ltb-true _ _ (second going _ g) in
-    let f = counted_now budget issues xs ys e i (omega (arith, l)) b in m (omega (arith, f, l))
-  where
-    second : (a b : Bool) → (a && b) ≡ true → b ≡ true
-    second true b h = h
-    second false b h = cc

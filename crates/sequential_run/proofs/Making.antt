@@ -1,8 +1,8 @@
 -- The events of a run that does one instruction at a time.
 use Rattle.std.proofs.Common.{◌≡◌, ◌<◌, ◌≤◌, ◌+◌, ℕ, zero, suc, Bool, true, false, ◌&&◌, not, cond, List, [], ◌∷◌, ◌++◌}
-use Rattle.std.proofs.Common.{Option, Some, None, length, is_some, is_none, refl, sym, ap, subst, ◌∙◌, arith, inl}
-use Rattle.std.proofs.Common.{ltb-true, leb-true, ◌||◌}
-use Rattle.std.specs.Prelude.{nat_lt, nat_le, Result, Ok, drop, option_to_list}
+use Rattle.std.proofs.Common.{Option, Some, None, length, is_some, is_none, refl, sym, ap, arith, inl}
+use Rattle.std.proofs.Common.{ltb-true}
+use Rattle.std.specs.Prelude.{nat_lt, Result, Ok, drop, option_to_list}
 use Rattle.std.proofs.lemmas.Option.{same_Some}
 use Rattle.instructions.specs.declared.refusal.Halt.{Halt}
 use Rattle.instructions.specs.declared.refusal.Refusal.{Refusal}
@@ -10,7 +10,6 @@ use Rattle.relocation.specs.Relocation.{package_fits}
 use Rattle.in_flight.specs.Lookup.{is_pending}
 use Rattle.in_flight.specs.Tests.{refusal_of}
 use Rattle.sequential.specs.declared.fetching.Fetched.{Fetched}
-use Rattle.sequential.specs.declared.fetching.Fetched.TheVariants.{Halting, Passing, Taking}
 use Rattle.sequential.specs.declared.state.State.{State}
 use Rattle.sequential.specs.Log.{issued}
 use Rattle.sequential.specs.Replay.{LogStep, Issued, Exchanged, boot, replay}
@@ -62,8 +61,7 @@ unfolding settled
 reaches_on memory budget w e r h = record {
   events = r.events ++ e ∷ [];
   answers = r.answers ++ Ok (done_by w e) ∷ [];
-  reached = event_goes_on w (after w e) e (Ok (done_by w e)) (answered w e h) refl memory budget r.events r.answers
-      r.reached;
+  reached = search (arith, event_goes_on, answered);
   right = event_kept w e h r.right;
 }
 
@@ -82,16 +80,7 @@ pub record Drains (memory : List ℕ) (budget : ℕ) (w : Processor) : Type 0 wh
 
 drained_here : (memory : List ℕ) (budget : ℕ) (w : Processor) → Reaches memory budget w → is_pending w.pending ≡ false
     → Drains memory budget w
-drained_here memory budget w r h = record {
-  last = w;
-  reaches = r;
-  drained = not_pending w.pending h;
-  log = refl;
-  request = refl;
-  budget_is = refl;
-  asked = refl;
-  boot = refl;
-}
+drained_here memory budget w r h = grind (arith, not_pending)
 
 next_accounts : (w : Processor) (e : Event) → allowed w e ≡ None → works_on w.pending e ≡ true
     → KeepsAccounts w (after w e)
@@ -119,17 +108,7 @@ drains (suc n) memory budget w r l =
         let a = next_accounts w e h (next_works_on w.pending w.busy e k) in
         let eases : work_left (after w e).pending + 1 + saved_of w.pending w.busy
         ≤ work_left w.pending + saved_of (after w e).pending (after w e).busy = next_eases w e k in
-        let d = more (after w e) (reaches_on memory budget w e r h) (omega (arith, eases, l)) in
-        record {
-          last = d.last;
-          reaches = d.reaches;
-          drained = d.drained;
-          log = d.log ∙ a.log;
-          request = d.request ∙ a.request;
-          budget_is = d.budget_is ∙ a.budget;
-          asked = d.asked ∙ a.asked;
-          boot = d.boot ∙ a.boot_memory;
-        }
+        search (arith, reaches_on)
 
 -- ---- at a moment of a run ----
 
@@ -154,16 +133,10 @@ pub record Stands (memory : List ℕ) (budget : ℕ) (m : Moment) : Type 0 where
 issues_by : (o : Option ℕ) (mid : Bool) (due : Option ℕ) (free : List ℕ) (go : Turn)
     → turn_by o mid due free go ≡ Issues → go ≡ Issues
 unfolding turn_by
-issues_by (Some n) true due free go h = h
-issues_by (Some n) false due free go h = cc
-issues_by None mid (Some n) free go h = cc
-issues_by None mid None (n ∷ ns) go h = cc
-issues_by None mid None [] go h = h
+issues_by o mid due free go h = grind arith
 
 both : (a b : Bool) → cond (a && b) Issues Ends ≡ Issues → (a ≡ true) × (b ≡ true)
-both true true h = (refl, refl)
-both true false h = cc
-both false b h = cc
+both a b h = grind arith
 
 issues_when : (budget : ℕ) (m : Moment) → next_turn budget m ≡ Issues
     → (is_going m.state ≡ true) × (nat_lt (issued m.log) budget ≡ true)
@@ -178,13 +151,7 @@ package_at other = 0
 exchanges_by : (o : Option ℕ) (mid : Bool) (due : Option ℕ) (free : List ℕ) (b : Bool) (n : ℕ)
     → turn_by o mid due free (cond b Issues Ends) ≡ Exchanges n → (o ≡ Some n) × (mid ≡ false)
 unfolding turn_by package_at
-exchanges_by (Some k) true due free true n h = cc
-exchanges_by (Some k) true due free false n h = cc
-exchanges_by (Some k) false due free b n h = (ap (λ t. Some (package_at t)) h, refl)
-exchanges_by None mid (Some k) free b n h = cc
-exchanges_by None mid None (k ∷ ks) b n h = cc
-exchanges_by None mid None [] true n h = cc
-exchanges_by None mid None [] false n h = cc
+exchanges_by o mid due free b n h = grind arith
 
 exchanges_when : (budget : ℕ) (m : Moment) (n : ℕ) → next_turn budget m ≡ Exchanges n
     → (m.waiting ≡ Some n) × (is_in_mid_word m.state ≡ false)
@@ -193,9 +160,7 @@ exchanges_when budget m n h = exchanges_by m.waiting (is_in_mid_word m.state) (f
     (is_going m.state && nat_lt (issued m.log) budget) n h
 
 runs_by : (o : Option Halt) (f : Bool) → (is_none o && not f) ≡ true → (o ≡ None) × (f ≡ false)
-runs_by None false h = (refl, refl)
-runs_by None true h = cc
-runs_by (Some k) f h = cc
+runs_by o f h = grind arith
 
 runs_when : (s : State) → is_going s ≡ true → (s.halt ≡ None) × (s.fault ≡ false)
 unfolding is_going
@@ -214,9 +179,7 @@ apart_when s h = not_mid (is_none s.halt) (not s.fault) (is_some s.position.held
 
 issue_asked : (w : Processor) (g : Fetched) → (after_issue w g).asked ≡ w.asked
 unfolding after_issue
-issue_asked w (Halting k position) = refl
-issue_asked w (Passing position) = refl
-issue_asked w (Taking i position) = refl
+issue_asked w g = grind arith
 
 after_asked : (w : Processor) → (after w Issue).asked ≡ w.asked
 unfolding after
@@ -235,47 +198,18 @@ stands_issued memory budget m n s g l e q h =
     let runs = runs_when m.state g in
     let a : issued w.log ≡ issued m.log = ap issued s.log in
     let b : w.budget ≡ budget = s.budget_is in
-    let ok : allowed w Issue ≡ None = issue_accepted w (empty_pending w s.drained)
-    (ap (λ t. t.halt) s.state ∙ runs.0) (ap (λ t. t.fault) s.state ∙ runs.1) (omega (arith, a, b, l))
-    (ap (λ o. is_none o || is_some w.state.position.held) s.request) in
+    let ok : allowed w Issue ≡ None = grind (arith, issue_accepted, empty_pending, is_none, is_some) in
     let v = after w Issue in
     let books = books_after w Issue in
     let d = drains (work_left v.pending) memory budget v (reaches_on memory budget w Issue s.reaches ok)
-    (omega arith) in
-    let log : d.last.log ≡ n.log = d.log ∙ books.log ∙ ap (λ x. x ++ Issued ∷ []) s.log ∙ sym e in
-    let boots : d.last.boot_memory ≡ memory = d.boot ∙ books.boot ∙ s.boot in
-    let state : Some d.last.state ≡ Some n.state =
-    sym (drained_replay d.last d.reaches.right d.drained) ∙ ap (λ x. replay (boot x) d.last.log) boots
-    ∙ ap (replay (boot memory)) log ∙ h in
-    let asked : d.last.asked ≡ w.asked = d.asked ∙ after_asked w in
-    let few = s.asked in
-    record {
-      last = d.last;
-      reaches = d.reaches;
-      drained = d.drained;
-      request = d.request ∙ books.request ∙ s.request;
-      log = log;
-      state = same_Some _ _ state;
-      budget_is = d.budget_is ∙ books.budget ∙ s.budget_is;
-      boot = boots;
-      asked = omega (arith, asked, q, few);
-    }
+    (omega arith) in grind (arith, drained_replay, after_asked, same_Some)
 
 -- ---- an exchange ----
-
-none_refuses : (a b c : Bool) (x y z : Refusal) → a ≡ false → b ≡ false → c ≡ false
-    → cond a (Some x) (cond b (Some y) (cond c (Some z) None)) ≡ None
-none_refuses a b c x y z h k l = rw (h, k, l) refl
 
 ask_allowed : (w : Processor) (n : ℕ) → w.asked < 1000000 → w.request ≡ None
     → package_fits n (length w.state.memory) ≡ true → allowed w (Ask n) ≡ None
 unfolding allowed tests_of ask_tests refusal_of
-ask_allowed w n l r f = none_refuses (nat_le 1000000 w.asked) (is_some w.request)
-    (not (package_fits n (length w.state.memory))) _ _ _ (few (nat_le 1000000 w.asked) refl) (ap is_some r) (ap not f)
-  where
-    few : (b : Bool) → nat_le 1000000 w.asked ≡ b → b ≡ false
-    few false e = refl
-    few true e = let k : 1000000 ≤ w.asked = leb-true 1000000 w.asked e in absurd (omega (arith, k, l))
+ask_allowed w n l r f = grind arith
 
 -- the machine with the request waiting
 abbrev pub with_request : Processor → ℕ → Processor
@@ -309,9 +243,7 @@ stands_exchanged memory budget m n s w h f =
         log = s.last.log ++ Exchanged n ∷ [];
         request = None;
       };
-      reaches = exchange_reaches memory budget s.last n (asks_reach memory budget s.last n s.reaches
-          (omega (arith, one, few)) s.request (ap (λ t. package_fits n (length t.memory)) s.state ∙ f)) s.drained
-          (ap (λ t. is_none t.halt && (not t.fault && is_some t.position.held)) s.state ∙ apart_when m.state h);
+      reaches = grind (arith, exchange_reaches, asks_reach, apart_when, is_none, is_some);
       drained = s.drained;
       request = refl;
       log = ap (λ l. l ++ Exchanged n ∷ []) s.log;
@@ -325,39 +257,17 @@ stands_exchanged memory budget m n s w h f =
 
 stands_as : (memory : List ℕ) (budget : ℕ) (m n : Moment) → Stands memory budget m → n.log ≡ m.log
     → n.state ≡ m.state → requests_left n ≤ requests_left m → Stands memory budget n
-stands_as memory budget m n s l e q = record {
-  last = s.last;
-  reaches = s.reaches;
-  drained = s.drained;
-  request = s.request;
-  log = s.log ∙ sym l;
-  state = s.state ∙ sym e;
-  budget_is = s.budget_is;
-  boot = s.boot;
-  asked = let few = s.asked in omega (arith, q, few);
-}
+stands_as memory budget m n s l e q = grind arith
 
 asks_by : (o : Option ℕ) (mid : Bool) (due : Option ℕ) (free : List ℕ) (b : Bool) (n : ℕ)
     → turn_by o mid due free (cond b Issues Ends) ≡ Asks n → (o ≡ None) × (is_some due ≡ true)
 unfolding turn_by
-asks_by (Some k) true due free true n h = cc
-asks_by (Some k) true due free false n h = cc
-asks_by (Some k) false due free b n h = cc
-asks_by None mid (Some k) free b n h = (refl, refl)
-asks_by None mid None (k ∷ ks) b n h = cc
-asks_by None mid None [] true n h = cc
-asks_by None mid None [] false n h = cc
+asks_by o mid due free b n h = grind arith
 
 free_by : (o : Option ℕ) (mid : Bool) (due : Option ℕ) (free : List ℕ) (b : Bool) (n : ℕ)
     → turn_by o mid due free (cond b Issues Ends) ≡ AsksFree n → (o ≡ None) × (0 < length free)
 unfolding turn_by
-free_by (Some k) true due free true n h = cc
-free_by (Some k) true due free false n h = cc
-free_by (Some k) false due free b n h = cc
-free_by None mid (Some k) free b n h = cc
-free_by None mid None (k ∷ ks) b n h = (refl, omega arith)
-free_by None mid None [] true n h = cc
-free_by None mid None [] false n h = cc
+free_by o mid due free b n h = grind arith
 
 due_left : (done : ℕ) (asks : List (ℕ × ℕ)) → is_some (first_due done asks) ≡ true → 0 < length asks
 unfolding first_due
@@ -374,30 +284,10 @@ stands_turn : (memory : List ℕ) (budget : ℕ) (m : Moment) (t : Turn) → nex
     → Stands memory budget m → replay (boot memory) (take_turn m t).log ≡ Some (take_turn m t).state
     → Stands memory budget (take_turn m t)
 unfolding take_turn next_turn issue_or_end
-stands_turn memory budget m (Exchanges n) e s h = by_fit (package_fits n (length m.state.memory)) refl
-  where
-    when : (m.waiting ≡ Some n) × (is_in_mid_word m.state ≡ false)
-    when = exchanges_when budget m n e
-
-    by_fit : (b : Bool) → package_fits n (length m.state.memory) ≡ b → Stands memory budget
-        (cond b (record m { state = swap n m.state; log = m.log ++ Exchanged n ∷ []; waiting = None }) m)
-    by_fit true k = stands_exchanged memory budget m n s when.0 when.1 k
-    by_fit false k = s
-stands_turn memory budget m (Asks n) e s h =
-    let when = asks_by m.waiting (is_in_mid_word m.state) (first_due (issued m.log) m.asks) m.free
-    (is_going m.state && nat_lt (issued m.log) budget) n e in
-    let none : length (option_to_list m.waiting) ≡ 0 = ap (λ o. length (option_to_list o)) when.0 in
-    let less = dropped m.asks (due_left (issued m.log) m.asks when.1) in
-    stands_as memory budget m _ s refl refl (omega (arith, none, less))
-stands_turn memory budget m (AsksFree n) e s h =
-    let when = free_by m.waiting (is_in_mid_word m.state) (first_due (issued m.log) m.asks) m.free
-    (is_going m.state && nat_lt (issued m.log) budget) n e in
-    let none : length (option_to_list m.waiting) ≡ 0 = ap (λ o. length (option_to_list o)) when.0 in
-    let less = dropped m.free when.1 in
-    stands_as memory budget m _ s refl refl (omega (arith, none, less))
-stands_turn memory budget m Issues e s h =
-    let when = issues_when budget m e in
-    stands_issued memory budget m _ s when.0 (ltb-true _ _ when.1) refl refl h
+stands_turn memory budget m (Exchanges n) e s h = search (arith, exchanges_when, stands_exchanged)
+stands_turn memory budget m (Asks n) e s h = search (arith, asks_by, dropped, due_left, stands_as)
+stands_turn memory budget m (AsksFree n) e s h = search (arith, free_by, dropped, stands_as)
+stands_turn memory budget m Issues e s h = grind (arith, issues_when, stands_issued, ltb-true)
 stands_turn memory budget m Ends e s h = s
 
 stands_turns : (n : ℕ) (memory : List ℕ) (budget : ℕ) (m : Moment) → Stands memory budget m
@@ -413,37 +303,13 @@ stands_turns (suc n) memory budget m s h =
 stands_begun : (memory : List ℕ) (budget : ℕ) (asks : List (ℕ × ℕ)) (free : List ℕ)
     → length asks + length free ≤ 1000000 → Stands memory budget (begun memory asks free)
 unfolding begun boot_processor
-stands_begun memory budget asks free l = record {
-  last = boot_processor memory budget;
-  reaches = record {
-    events = [];
-    answers = [];
-    reached = boot_reached memory budget (boot_processor memory budget) refl;
-    right = boot_right memory budget;
-  };
-  drained = refl;
-  request = refl;
-  log = refl;
-  state = refl;
-  budget_is = refl;
-  boot = refl;
-  asked = omega (arith, l);
-}
+stands_begun memory budget asks free l =
+    grind (arith, boot_reached memory budget (boot_processor memory budget) refl, boot_right memory budget)
 
 pub run_made : (memory : List ℕ) (start : ℕ) (given : List (ℕ × ℕ)) (free : List ℕ) (budget : ℕ) (log : List LogStep)
     (s : State) → IsSequentialRun memory start given free budget log s → length given + length free < 1000000
     → IsMadeByEvents memory budget log s
 run_made memory start given free budget log s run l =
     let count : length run.asks ≡ suc (length given) = kept_count ((start, 0) ∷ given) run.asks run.ordered.same in
-    let ends : Stands memory budget run.last = subst (Stands memory budget) run.ends.reached
-    (stands_turns run.ends.count memory budget (begun memory run.asks free)
-    (stands_begun memory budget run.asks free (omega (arith, count, l))) (begun_replays memory run.asks free)) in
-    record {
-      events = ends.reaches.events;
-      answers = ends.reaches.answers;
-      last = ends.last;
-      reached = ends.reaches.reached;
-      drained = ends.drained;
-      log_is = ends.log ∙ sym run.log_is;
-      state_is = ends.state ∙ sym run.state_is;
-    }
+    let ends : Stands memory budget run.last = grind (arith, stands_turns, stands_begun, begun_replays) in
+    grind arith

@@ -1,16 +1,12 @@
 -- How long a machine stays in the middle of a word.
-use Rattle.std.proofs.Common.{◌≡◌, ◌<◌, ◌≤◌, ◌+◌, ◌-◌, ◌%◌, ◌^◌, ℕ, Bool, true, false, cond, List, [], ◌∷◌}
-use Rattle.std.proofs.Common.{Option, Some, None, is_some, refl, sym, ap, subst, ◌∙◌, ltb, ltb-true, ltb-false, arith}
+use Rattle.std.proofs.Common.{◌≡◌, ◌<◌, ◌-◌, ℕ, true, false, List, [], ◌∷◌}
+use Rattle.std.proofs.Common.{Option, Some, None, is_some, refl, sym, ap, subst, ◌∙◌, ltb-true, ltb-false, arith}
 use Rattle.std.proofs.lemmas.Bool.{and_parts}
 use Rattle.instructions.specs.declared.instr.Instr.{Instr}
-use Rattle.instructions.specs.declared.instr.Instr.TheVariants.{Stop, Pass, ReturnJump, Jump, BranchX, BranchB, Copy}
-use Rattle.instructions.specs.declared.instr.Instr.TheVariants.{Invert, Logical, ShiftBy, ShiftNominal, LongAdd, Mask}
-use Rattle.instructions.specs.declared.instr.Instr.TheVariants.{CountOnes, Increment}
 use Rattle.instructions.specs.declared.instr.Reg.{Reg}
 use Rattle.instructions.specs.declared.refusal.Halt.{Halt}
 use Rattle.instruction_table.specs.declared.decoding.Decoded.{Decoded}
 use Rattle.instruction_table.specs.declared.decoding.Decoded.TheVariants.{Legal, Refused, Straddle}
-use Rattle.instruction_table.specs.Decoding.{reading_at}
 use Rattle.instruction_table.specs.Pattern.{parcels_from, used_in, IsByTable, IsReadAs}
 use Rattle.instruction_table.proofs.table.ByTable.{by_table}
 use Rattle.instruction_table.proofs.table.RoundTrip.{entry_of_row, IsEntryOf}
@@ -21,9 +17,9 @@ use Rattle.sequential.specs.declared.fetching.Fetched.TheVariants.{Halting, Pass
 use Rattle.sequential.specs.declared.position.ProgramPosition.{ProgramPosition}
 use Rattle.sequential.specs.declared.state.State.{State}
 use Rattle.sequential.specs.declared.work.ProgramReference.{ProgramReference}
-use Rattle.sequential.specs.Position.{beginning, after_jump, after_parcel}
+use Rattle.sequential.specs.Position.{after_jump, after_parcel}
 use Rattle.sequential.specs.Replay.{boot}
-use Rattle.sequential.specs.State.{Bounds, absolute, access_at, bounds_of, halt_by, jump_to, move_to, or_fault}
+use Rattle.sequential.specs.State.{Bounds, absolute, access_at, halt_by, jump_to, move_to, or_fault}
 use Rattle.sequential.specs.State.{store_word, write, write_all}
 use Rattle.sequential.specs.Step.{at_instruction, classify, do_fetched, do_instruction, fetch, fetched_by, fetched_from}
 use Rattle.sequential.specs.Step.{step, step_unless, word_seen}
@@ -40,12 +36,7 @@ record IsLater (parcel : ℕ) (position : ProgramPosition) : Type 0 where
 
 later_parcel : (p parcel word next : ℕ) → parcel < next → IsLater parcel (after_parcel p word next)
 unfolding after_parcel
-later_parcel p parcel word next l = by_test (ltb next 4) refl
-  where
-    by_test : (b : Bool) → ltb next 4 ≡ b
-        → IsLater parcel (cond b (record { p = p; parcel = next; held = Some word }) (beginning ((p + 1) % 2 ^ 18)))
-    by_test true e = record { inside = ltb-true next 4 e; later = λ h. l }
-    by_test false e = record { inside = omega arith; later = λ h. cc }
+later_parcel p parcel word next l = grind arith
 
 later_jump : (parcel : ℕ) (position : ProgramPosition) (to : Option ℕ) → IsLater parcel position
     → IsLater parcel (after_jump position to)
@@ -65,14 +56,7 @@ some_parcel i word parcel n e r =
     subst (IsEntryOf i) (sym r.1 ∙ ap (λ k. used_in i (parcels_from word parcel k)) e) (entry_of_row i r.0)
 
 on_by_table : (word parcel : ℕ) (d : Decoded) → IsByTable word parcel d → ReadsOn parcel d
-on_by_table word parcel (Legal i next) t = by_test (ltb parcel next) refl
-  where
-    by_test : (b : Bool) → ltb parcel next ≡ b → parcel < next
-    by_test true e = ltb-true parcel next e
-    by_test false e = let l : next ≤ parcel = ltb-false parcel next e in
-        absurd (some_parcel i word parcel (next - parcel) (omega (arith, l)) t)
-on_by_table word parcel (Refused op) t = tt
-on_by_table word parcel Straddle t = tt
+on_by_table word parcel d t = search (arith, some_parcel, ltb-true, ltb-false)
 
 -- after a fetch that doesn't halt the machine, the next parcel is later
 abbrev GoesLater : ℕ → Fetched → Type 0
@@ -83,21 +67,7 @@ GoesLater parcel (Taking i position) = IsLater parcel position
 later_met : (parcel : ℕ) (position next : ProgramPosition) (i : Instr) → position.parcel < 4 → IsLater parcel next
     → GoesLater parcel (classify position next i)
 unfolding classify
-later_met parcel position next Stop l h = l
-later_met parcel position next Pass l h = h
-later_met parcel position next (ReturnJump K) l h = h
-later_met parcel position next (Jump i K) l h = h
-later_met parcel position next (BranchX t j K) l h = h
-later_met parcel position next (BranchB t i j K) l h = h
-later_met parcel position next (Copy i j) l h = h
-later_met parcel position next (Invert i j) l h = h
-later_met parcel position next (Logical o i j k) l h = h
-later_met parcel position next (ShiftBy d i n) l h = h
-later_met parcel position next (ShiftNominal d i j k) l h = h
-later_met parcel position next (LongAdd o i j k) l h = h
-later_met parcel position next (Mask i n) l h = h
-later_met parcel position next (CountOnes i j) l h = h
-later_met parcel position next (Increment t i a) l h = h
+later_met parcel position next i l h = grind arith
 
 later_read : (p parcel word : ℕ) (d : Decoded) → parcel < 4 → ReadsOn parcel d
     → GoesLater parcel (fetched_by p parcel word d)
@@ -109,9 +79,7 @@ later_read p parcel word Straddle l h = l
 
 later_from : (p parcel : ℕ) (o : Option ℕ) → parcel < 4 → GoesLater parcel (fetched_from p parcel o)
 unfolding fetched_from
-later_from p parcel None l = omega arith
-later_from p parcel (Some word) l = later_read p parcel word (reading_at word parcel) l
-    (on_by_table word parcel (reading_at word parcel) (by_table word parcel l))
+later_from p parcel o l = grind (arith, later_read, on_by_table, by_table)
 
 later_fetched : (b : Bounds) (memory : List ℕ) (position : ProgramPosition) → position.parcel < 4
     → GoesLater position.parcel (fetch b memory position)
@@ -133,9 +101,7 @@ accessed_place s a (StoreWord w) = refl
 
 referred_at_place : (s : State) (o : Option ℕ) (access : Access) → (refer_at s o access).position ≡ s.position
 unfolding refer_at write
-referred_at_place s (Some a) access = accessed_place s a access
-referred_at_place s None (LoadInto n) = refl
-referred_at_place s None (StoreWord w) = refl
+referred_at_place s o access = grind (arith, accessed_place)
 
 referred_place : (b : Bounds) (s : State) (o : Option ProgramReference) → (refer b s o).position ≡ s.position
 unfolding refer
@@ -145,9 +111,7 @@ referred_place b s (Some r) = referred_at_place s (absolute b r.address) r.acces
 worked_position : (b : Bounds) (s : State) (work : Work)
     → (do_work b s work).position ≡ after_jump s.position work.jump
 unfolding do_work write_and_jump or_fault jump_to
-worked_position b s work =
-    referred_place b (or_fault (jump_to (write_all s work.sets) work.jump) _) work.reference
-    ∙ ap (λ p. after_jump p work.jump) (written_place s work.sets)
+worked_position b s work = simp (referred_place, written_place)
 
 -- ---- a step ----
 
@@ -185,22 +149,14 @@ done_later b s at parcel (Taking i position) l = comes_later parcel (do_fetched 
 
 step_later : (s : State) → s.position.parcel < 4 → ComesLater s.position.parcel (step s)
 unfolding step step_unless
-step_later s l = by_halt s.halt refl
-  where
-    by_halt : (o : Option Halt) → s.halt ≡ o → ComesLater s.position.parcel (step_unless s o)
-    by_halt (Some halt) e = record { inside = l; later = λ h. absurd (halted_out s halt e h) }
-    by_halt None e = done_later (bounds_of s) s s.position.p s.position.parcel
-        (fetch (bounds_of s) s.memory s.position) (later_fetched (bounds_of s) s.memory s.position l)
+step_later s l = grind (arith, halted_out, done_later, later_fetched)
 
 -- a step that leaves the machine in the middle of a word moves it to a later parcel
 pub steps_on : (s : State) → IsPlaced s → is_in_mid_word (step s) ≡ true → s.position.parcel < (step s).position.parcel
 steps_on s p h = (step_later s p.inside).later h
 
 pub placed_step : (s : State) → IsPlaced s → IsPlaced (step s)
-placed_step s p = record {
-  inside = (step_later s p.inside).inside;
-  begun = λ h. let l : s.position.parcel < (step s).position.parcel = steps_on s p h in omega (arith, l);
-}
+placed_step s p = grind (arith, step_later, steps_on)
 
 -- ---- where a word begins ----
 

@@ -17,11 +17,7 @@ stays budget (suc n) m e = ap (λ t. turns budget n (take_turn m t)) e ∙ stays
 
 later_end : (budget : ℕ) (m a b : Moment) (i j : ℕ) → i ≤ j → turns budget i m ≡ a → turns budget j m ≡ b
     → next_turn budget a ≡ Ends → a ≡ b
-later_end budget m a b i j l h k e =
-    sym (stays budget (j - i) a e)
-    ∙ ap (turns budget (j - i)) (sym h)
-    ∙ sym (more_turns budget i (j - i) j m (omega (arith, l)))
-    ∙ k
+later_end budget m a b i j l h k e = cc (stays budget (j - i) a e, more_turns budget i (j - i) j m (omega (arith, l)))
 
 one_end : (budget : ℕ) (m a b : Moment) → EndsAt budget m a → EndsAt budget m b → a ≡ b
 one_end budget m a b x y = by_order (ltb y.count x.count) refl
@@ -29,8 +25,7 @@ one_end budget m a b x y = by_order (ltb y.count x.count) refl
     by_order : (t : Bool) → ltb y.count x.count ≡ t → a ≡ b
     by_order true l = sym (later_end budget m b a y.count x.count
         (let k : y.count < x.count = ltb-true y.count x.count l in omega (arith, k)) y.reached x.reached y.ends)
-    by_order false l = later_end budget m a b x.count y.count
-        (let k : x.count ≤ y.count = ltb-false y.count x.count l in k) x.reached y.reached x.ends
+    by_order false l = search (arith, later_end, ltb-false)
 
 -- ---- the law ----
 
@@ -41,5 +36,4 @@ one_result memory start after free budget log other s t a b =
     let order = one_order a.asks b.asks a.ordered.in_order b.ordered.in_order
     (λ z. a.ordered.same z ∙ sym (b.ordered.same z)) in
     let last : a.last ≡ b.last = one_end budget (begun memory b.asks free) a.last b.last
-    (subst (λ l. EndsAt budget (begun memory l free) a.last) order a.ends) b.ends in
-    (a.log_is ∙ ap (λ m. m.log) last ∙ sym b.log_is, a.state_is ∙ ap (λ m. m.state) last ∙ sym b.state_is)
+    (subst (λ l. EndsAt budget (begun memory l free) a.last) order a.ends) b.ends in grind arith

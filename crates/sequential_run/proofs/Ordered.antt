@@ -1,6 +1,6 @@
 -- The ordered requests of a run: there is one order, and it has as many requests as were given.
 use Rattle.std.proofs.Common.{◌≡◌, ◌<◌, ◌≤◌, ℕ, suc, Bool, true, false, ◌&&◌, not, cond, List, [], ◌∷◌}
-use Rattle.std.proofs.Common.{length, refl, sym, ap, ◌∙◌, arith, ltb, ltb-false, le-ltb, ◌==◌}
+use Rattle.std.proofs.Common.{length, refl, sym, ap, ◌∙◌, arith, ltb, ◌==◌}
 use Rattle.std.specs.Prelude.{drop, slice_index_or}
 use Rattle.std.specs.List.{filter}
 use Rattle.std.specs.Ordering.{nat_cmp, is_lt}
@@ -16,31 +16,17 @@ abbrev pub tie : ℕ × ℕ → ℕ × ℕ → Bool
 tie x z = ties (λ a b. is_lt (nat_cmp a.1 b.1)) x z
 
 lt_of : (b e : Bool) → is_lt (cond b Less (cond e Equal Greater)) ≡ b
-lt_of true e = refl
-lt_of false true = refl
-lt_of false false = refl
+lt_of b e = grind arith
 
 tie_is : (x z : ℕ × ℕ) → tie x z ≡ (not (ltb x.1 z.1) && not (ltb z.1 x.1))
 tie_is x z = ap (λ b. not b && not (is_lt (nat_cmp z.1 x.1))) (lt_of (ltb x.1 z.1) (x.1 == z.1))
     ∙ ap (λ b. not (ltb x.1 z.1) && not b) (lt_of (ltb z.1 x.1) (z.1 == x.1))
 
 pub tied : (x z : ℕ × ℕ) → x.1 ≡ z.1 → tie x z ≡ true
-tied x z e =
-    let a : ltb x.1 z.1 ≡ false = le-ltb _ _ (omega (arith, e)) in
-    let b : ltb z.1 x.1 ≡ false = le-ltb _ _ (omega (arith, e)) in
-    tie_is x z ∙ ap (λ t. not t && not (ltb z.1 x.1)) a ∙ ap (λ t. not false && not t) b
-
-neither : (a b : Bool) → (not a && not b) ≡ true → (a ≡ false) × (b ≡ false)
-neither false false h = (refl, refl)
-neither false true h = cc
-neither true b h = cc
+tied x z e = grind arith
 
 tie_key : (x z : ℕ × ℕ) → tie x z ≡ true → x.1 ≡ z.1
-tie_key x z h =
-    let n = neither (ltb x.1 z.1) (ltb z.1 x.1) (sym (tie_is x z) ∙ h) in
-    let a : z.1 ≤ x.1 = ltb-false x.1 z.1 n.0 in
-    let b : x.1 ≤ z.1 = ltb-false z.1 x.1 n.1 in
-    omega (arith, a, b)
+tie_key x z h = grind arith
 
 -- a request of the list comes after at least as many instructions as the least one
 least : (xs : List (ℕ × ℕ)) (low : ℕ) (z : ℕ × ℕ)
@@ -67,22 +53,14 @@ head_of : ℕ × ℕ → List (ℕ × ℕ) → ℕ × ℕ
 head_of d [] = d
 head_of d (x ∷ xs) = x
 
-rest_same : (b : Bool) (x : ℕ × ℕ) (p q : List (ℕ × ℕ)) → cond b (x ∷ p) p ≡ cond b (x ∷ q) q → p ≡ q
-rest_same true x p q h = ap (drop 1) h
-rest_same false x p q h = h
-
 -- ---- one order ----
 
 pub one_order : (xs ys : List (ℕ × ℕ)) → IsInOrder xs → IsInOrder ys
     → ((z : ℕ × ℕ) → filter (tie z) xs ≡ filter (tie z) ys) → xs ≡ ys
 unfolding head_of
 one_order [] [] o p h = refl
-one_order [] (y ∷ ys) o p h =
-    absurd (let e : 0 ≡ suc (length (filter (tie y) ys)) = ap length (h y ∙ kept_first y ys y (tied y y refl)) in
-    omega (arith, e))
-one_order (x ∷ xs) [] o p h =
-    absurd (let e : suc (length (filter (tie x) xs)) ≡ 0 =
-    ap length (sym (kept_first x xs x (tied x x refl)) ∙ h x) in omega (arith, e))
+one_order [] (y ∷ ys) o p h = grind (arith, kept_first y ys y (tied y y refl), tied y y refl)
+one_order (x ∷ xs) [] o p h = grind (arith, kept_first x xs x (tied x x refl), tied x x refl)
 one_order (x ∷ xs) (y ∷ ys) o p h =
     let own = kept_first x xs x (tied x x refl) in
     let other = kept_first y ys y (tied y y refl) in
@@ -91,9 +69,7 @@ one_order (x ∷ xs) (y ∷ ys) o p h =
     let low : y.1 ≤ x.1 = least_of y ys x p (omega (arith, a)) in
     let high : x.1 ≤ y.1 = least_of x xs y o (omega (arith, b)) in
     let e : x ≡ y = ap (head_of x) (sym own ∙ h x ∙ kept_first y ys x (tied x y (omega (arith, low, high)))) in
-    let tails : (z : ℕ × ℕ) → filter (tie z) xs ≡ filter (tie z) ys =
-    λ z. rest_same (tie z x) x (filter (tie z) xs) (filter (tie z) ys)
-    (h z ∙ ap (λ t. cond (tie z t) (t ∷ filter (tie z) ys) (filter (tie z) ys)) (sym e)) in
+    let tails : (z : ℕ × ℕ) → filter (tie z) xs ≡ filter (tie z) ys = grind arith in
     ap (λ t. t ∷ xs) e
     ∙ ap (λ l. y ∷ l) (one_order xs ys (IsNonDecreasingBy-drop (λ ask. ask.1) 1 (x ∷ xs) o)
     (IsNonDecreasingBy-drop (λ ask. ask.1) 1 (y ∷ ys) p) tails)
@@ -104,16 +80,12 @@ pub start_first : (start : ℕ) (after xs : List (ℕ × ℕ)) → IsInOrder xs
     → (rest : List (ℕ × ℕ)) × (xs ≡ (start, 0) ∷ rest)
 unfolding head_of
 start_first start after [] o h =
-    let z : ℕ × ℕ = (start, 0) in
-    absurd (let e : 0 ≡ suc (length (filter (tie z) after)) =
-    ap length (h z ∙ kept_first z after z (tied z z refl)) in omega (arith, e))
+    let z : ℕ × ℕ = (start, 0) in grind (arith, kept_first z after z (tied z z refl), tied z z refl)
 start_first start after (x ∷ xs) o h =
     let z : ℕ × ℕ = (start, 0) in
     let other = kept_first z after z (tied z z refl) in
     let a : length (filter (tie z) (x ∷ xs)) ≡ suc (length (filter (tie z) after)) = ap length (h z ∙ other) in
-    let low : x.1 ≤ 0 = least_of x xs z o (omega (arith, a)) in
-    let e : x ≡ z = ap (head_of x) (sym (kept_first x xs z (tied z x (omega (arith, low)))) ∙ h z ∙ other) in
-    (xs, ap (λ t. t ∷ xs) e)
+    grind (arith, least_of, head_of, kept_first, tied)
 
 -- ---- as many as were given ----
 
@@ -128,13 +100,7 @@ without z (x ∷ xs) = cond (tie z x) xs (x ∷ without z xs)
 one_less : (z : ℕ × ℕ) (xs : List (ℕ × ℕ)) → 0 < length (filter (tie z) xs) → length xs ≡ suc (length (without z xs))
 unfolding without
 one_less z [] l = absurd (omega (arith, l))
-one_less z (x ∷ xs) l = by_tie (tie z x) l (one_less z xs)
-  where
-    by_tie : (b : Bool) → 0 < length (cond b (x ∷ filter (tie z) xs) (filter (tie z) xs))
-        → (0 < length (filter (tie z) xs) → length xs ≡ suc (length (without z xs)))
-        → suc (length xs) ≡ suc (length (cond b xs (x ∷ without z xs)))
-    by_tie true l more = refl
-    by_tie false l more = ap suc (more l)
+one_less z (x ∷ xs) l = search (arith, one_less z xs, without)
 
 tie_first : (y z x : ℕ × ℕ) → y.1 ≡ z.1 → tie y x ≡ tie z x
 tie_first y z x e = tie_is y x ∙ ap (λ n. not (ltb n x.1) && not (ltb x.1 n)) e ∙ sym (tie_is z x)
@@ -150,11 +116,7 @@ rest_of false l = l
 ties_without : (y z : ℕ × ℕ) (xs : List (ℕ × ℕ))
     → filter (tie y) (without z xs) ≡ rest_of (tie y z) (filter (tie y) xs)
 unfolding without rest_of
-ties_without y z [] = none (tie y z)
-  where
-    none : (b : Bool) → [] ≡ rest_of b []
-    none true = refl
-    none false = refl
+ties_without y z [] = grind arith
 ties_without y z (x ∷ xs) = by_ties (tie y z) (tie z x) (tie y x) refl refl refl (ties_without y z xs)
   where
     by_ties : (a b c : Bool) → tie y z ≡ a → tie z x ≡ b → tie y x ≡ c
@@ -164,22 +126,17 @@ ties_without y z (x ∷ xs) = by_ties (tie y z) (tie z x) (tie y x) refl refl re
     by_ties true true true d e f more = refl
     by_ties true true false d e f more = absurd (apart (sym e ∙ sym (tie_first y z x (tie_key y z d)) ∙ f))
     by_ties true false true d e f more = absurd (apart (sym f ∙ tie_first y z x (tie_key y z d) ∙ e))
-    by_ties true false false d e f more =
-        ap (λ b. cond b (x ∷ filter (tie y) (without z xs)) (filter (tie y) (without z xs))) f ∙ more
+    by_ties true false false d e f more = grind arith
     by_ties false true true d e f more = absurd (apart (sym f ∙ tie_second y z x (tie_key z x e) ∙ d))
     by_ties false true false d e f more = refl
-    by_ties false false c d e f more =
-        ap (λ b. cond b (x ∷ filter (tie y) (without z xs)) (filter (tie y) (without z xs))) f
-        ∙ ap (λ l. cond c (x ∷ l) l) more
+    by_ties false false c d e f more = grind arith
 
 -- two lists with the same requests for each number of instructions have the same length
 pub same_count : (xs ys : List (ℕ × ℕ)) → ((z : ℕ × ℕ) → filter (tie z) xs ≡ filter (tie z) ys)
     → length xs ≡ length ys
 unfolding rest_of
 same_count [] [] h = refl
-same_count [] (y ∷ ys) h =
-    absurd (let e : 0 ≡ suc (length (filter (tie y) ys)) = ap length (h y ∙ kept_first y ys y (tied y y refl)) in
-    omega (arith, e))
+same_count [] (y ∷ ys) h = grind (arith, kept_first y ys y (tied y y refl), tied y y refl)
 same_count (x ∷ xs) ys h =
     let own : x ∷ filter (tie x) xs ≡ filter (tie x) ys = sym (kept_first x xs x (tied x x refl)) ∙ h x in
     let some : suc (length (filter (tie x) xs)) ≡ length (filter (tie x) ys) = ap length own in
@@ -189,11 +146,7 @@ same_count (x ∷ xs) ys h =
     omega (arith, less, rest)
   where
     by_tie : (z : ℕ × ℕ) (b : Bool) → tie z x ≡ b → filter (tie z) xs ≡ rest_of (tie z x) (filter (tie z) ys)
-    by_tie z b e = of_tie b e ∙ ap (λ l. rest_of b l) (h z) ∙ ap (λ c. rest_of c (filter (tie z) ys)) (sym e)
-      where
-        of_tie : (c : Bool) → tie z x ≡ c → filter (tie z) xs ≡ rest_of c (filter (tie z) (x ∷ xs))
-        of_tie true f = ap (λ t. drop 1 (cond t (x ∷ filter (tie z) xs) (filter (tie z) xs))) (sym f)
-        of_tie false f = ap (λ t. cond t (x ∷ filter (tie z) xs) (filter (tie z) xs)) (sym f)
+    by_tie z b e = grind arith
 
 -- an ordered list has as many requests as were given
 pub kept_count : (given asks : List (ℕ × ℕ)) → KeepsTies given asks → length asks ≡ length given

@@ -2,8 +2,7 @@
 use Rattle.std.proofs.Common.{◌≡◌, ◌<◌, ◌≤◌, ◌+◌, ℕ, zero, suc, Bool, true, false, ◌&&◌, cond, List, [], ◌∷◌}
 use Rattle.std.proofs.Common.{◌++◌, Option, Some, None, is_some, refl, sym, ap, subst, ◌∙◌, append_assoc}
 use Rattle.std.proofs.Common.{append-nil, add-one, arith, lt-ltb, le-leb}
-use Rattle.std.proofs.lemmas.Bool.Decides.{nat_tests}
-use Rattle.std.specs.Prelude.{replicate, nat_lt, nat_le}
+use Rattle.std.specs.Prelude.{replicate, nat_lt}
 use Rattle.exchange_requests.specs.Requests.{IsDue}
 use Rattle.sequential.specs.declared.state.State.{State}
 use Rattle.sequential.specs.Log.{issued}
@@ -36,12 +35,7 @@ steps_more n s t u h g e =
 -- two moments with equal parts are equal
 pub same_moment : (a b : Moment) → a.state ≡ b.state → a.log ≡ b.log → a.asks ≡ b.asks → a.free ≡ b.free
     → a.waiting ≡ b.waiting → a ≡ b
-same_moment a b s l q f w =
-    ap (λ x. record { state = x; log = a.log; asks = a.asks; free = a.free; waiting = a.waiting }) s
-    ∙ ap (λ x. record { state = b.state; log = x; asks = a.asks; free = a.free; waiting = a.waiting }) l
-    ∙ ap (λ x. record { state = b.state; log = b.log; asks = x; free = a.free; waiting = a.waiting }) q
-    ∙ ap (λ x. record { state = b.state; log = b.log; asks = b.asks; free = x; waiting = a.waiting }) f
-    ∙ ap (λ x. record { state = b.state; log = b.log; asks = b.asks; free = b.free; waiting = x }) w
+same_moment a b s l q f w = grind arith
 
 pub one_turn : (budget : ℕ) (m : Moment) (t : Turn) → next_turn budget m ≡ t → turns budget 1 m ≡ take_turn m t
 unfolding turns
@@ -59,28 +53,17 @@ more_turns budget (suc n) k j m e =
 pub exchange_next : (budget : ℕ) (m : Moment) (n : ℕ) → m.waiting ≡ Some n → is_in_mid_word m.state ≡ false
     → next_turn budget m ≡ Exchanges n
 unfolding next_turn turn_by
-exchange_next budget m n w h =
-    ap (λ o. turn_by o (is_in_mid_word m.state) (first_due (issued m.log) m.asks) m.free
-    (issue_or_end budget m.state (issued m.log))) w
-    ∙ ap (λ b. turn_by (Some n) b (first_due (issued m.log) m.asks) m.free
-    (issue_or_end budget m.state (issued m.log))) h
+exchange_next budget m n w h = cc
 
 pub ask_next : (budget : ℕ) (m : Moment) (n : ℕ) → m.waiting ≡ None → first_due (issued m.log) m.asks ≡ Some n
     → next_turn budget m ≡ Asks n
 unfolding next_turn turn_by
-ask_next budget m n w h =
-    ap (λ o. turn_by o (is_in_mid_word m.state) (first_due (issued m.log) m.asks) m.free
-    (issue_or_end budget m.state (issued m.log))) w
-    ∙ ap (λ o. turn_by None (is_in_mid_word m.state) o m.free (issue_or_end budget m.state (issued m.log))) h
+ask_next budget m n w h = cc
 
 pub free_next : (budget : ℕ) (m : Moment) (n : ℕ) (ns : List ℕ) → m.waiting ≡ None
     → first_due (issued m.log) m.asks ≡ None → m.free ≡ n ∷ ns → next_turn budget m ≡ AsksFree n
 unfolding next_turn turn_by
-free_next budget m n ns w h f =
-    ap (λ o. turn_by o (is_in_mid_word m.state) (first_due (issued m.log) m.asks) m.free
-    (issue_or_end budget m.state (issued m.log))) w
-    ∙ ap (λ o. turn_by None (is_in_mid_word m.state) o m.free (issue_or_end budget m.state (issued m.log))) h
-    ∙ ap (λ l. turn_by None (is_in_mid_word m.state) None l (issue_or_end budget m.state (issued m.log))) f
+free_next budget m n ns w h f = cc
 
 -- nothing comes before the next instruction
 pub record IsQuiet (m : Moment) : Type 0 where
@@ -91,9 +74,7 @@ pub record IsQuiet (m : Moment) : Type 0 where
 quiet_by : (o : Option ℕ) (mid : Bool) (due : Option ℕ) (free : List ℕ) (go : Turn) → (is_some o ≡ true → mid ≡ true)
     → (is_some o ≡ false → free ≡ []) → (is_some o ≡ false → due ≡ None) → turn_by o mid due free go ≡ go
 unfolding turn_by
-quiet_by (Some n) mid due free go h f d = ap (λ b. turn_by (Some n) b due free go) (h refl)
-quiet_by None mid due free go h f d = ap (λ o. turn_by None mid o free go) (d refl)
-    ∙ ap (λ l. turn_by None mid None l go) (f refl)
+quiet_by o mid due free go h f d = grind arith
 
 pub quiet_next : (budget : ℕ) (m : Moment) → IsQuiet m
     → next_turn budget m ≡ issue_or_end budget m.state (issued m.log)
@@ -122,9 +103,7 @@ pub none_due : (asks : List (ℕ × ℕ)) (done : ℕ) → IsDue asks done None 
 unfolding first_due
 none_due [] done d = refl
 none_due (ask ∷ asks) done d =
-    let l : done < ask.1 = d 0 ask (omega arith) in
-    let t : nat_le ask.1 done ≡ false = grind (arith, nat_tests, l) in
-    ap (λ b. cond b (Some ask.0) None) t
+    let l : done < ask.1 = d 0 ask (omega arith) in grind arith
 
 -- ---- instructions one after another ----
 
@@ -148,16 +127,10 @@ issues_turns budget (suc n) m t h l q =
       mid = λ w k. absurd (let o : suc n ≤ 1 = (q.mid w (omega arith)).0 in omega (arith, o, k));
       free = q.free;
       due = λ w k b. ap (λ i. first_due i m.asks)
-          (let e : issued (m.log ++ Issued ∷ []) ≡ issued m.log + 1 = issued-more m.log in
-          let f : issued (m.log ++ Issued ∷ []) + k ≡ issued m.log + (k + 1) = omega (arith, e) in f)
+          (let e : issued (m.log ++ Issued ∷ []) ≡ issued m.log + 1 = issued-more m.log in grind arith)
           ∙ q.due w (k + 1) (omega (arith, b));
     })
     ∙ ap (λ x. record m { state = t; log = x }) (append_assoc m.log (Issued ∷ []) (replicate n Issued))
   where
     quiet : IsQuiet m
-    quiet = record {
-      mid = λ w. (q.mid w (omega arith)).1;
-      free = q.free;
-      due = λ w. ap (λ i. first_due i m.asks) (let e : issued m.log ≡ issued m.log + 0 = omega arith in e)
-          ∙ q.due w 0 (omega arith);
-    }
+    quiet = grind arith

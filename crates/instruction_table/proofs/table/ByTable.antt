@@ -1,20 +1,18 @@
 -- Decoding at a position agrees with the table, opcode by opcode.
-use Rattle.std.proofs.Common.{ℕ, zero, suc, ◌≡◌, ◌≢◌, ◌+◌, ◌-◌, ◌*◌, ◌/◌, ◌%◌, ◌^◌, ◌<◌, Bool, true, false, cond, List}
+use Rattle.std.proofs.Common.{ℕ, zero, suc, ◌≡◌, ◌≢◌, ◌+◌, ◌-◌, ◌*◌, ◌/◌, ◌%◌, ◌^◌, ◌<◌, List}
 use Rattle.std.proofs.Common.{[], ◌∷◌, get_or, length, refl, ap, ◌∙◌, subst, arith}
-use Rattle.std.specs.Prelude.{nat_lt, ⊤}
-use Rattle.std.proofs.lemmas.Bool.{ltb-false, ne_eqb}
+use Rattle.std.specs.Prelude.{⊤}
+use Rattle.std.proofs.lemmas.Bool.{ltb-false}
 use Rattle.parcel.specs.Parcels.{parcel_at}
-use Rattle.instructions.specs.declared.instr.Instr.{Instr}
 use Rattle.instructions.specs.declared.instr.Instr.TheVariants.{BranchX}
 use Rattle.instructions.specs.declared.instr.Op.TheVariants.{Plain, Extended}
 use Rattle.instructions.specs.declared.instr.Target.TheVariants.{A as TargetA, B as TargetB, X as TargetX}
-use Rattle.instruction_table.specs.declared.decoding.Decoded.TheVariants.{Legal, Straddle}
 use Rattle.instruction_table.specs.declared.decoding.TableEntry.{TableEntry}
 use Rattle.instruction_table.specs.declared.decoding.TableEntry.TheVariants.{Short, Long, Refused}
 use Rattle.instruction_table.specs.Decoding.{x_test_at, entry, extended, branches, logicals, shifts, additions, others}
-use Rattle.instruction_table.specs.Decoding.{increments, rows, entry_of, settled, following_at, reading_at}
+use Rattle.instruction_table.specs.Decoding.{increments, rows, entry_of, following_at, reading_at}
 use Rattle.instruction_table.specs.Opcode.{op_at}
-use Rattle.instruction_table.specs.Pattern.{parcels_from, IsReadAs, IsByTable}
+use Rattle.instruction_table.specs.Pattern.{IsReadAs, IsByTable}
 use Rattle.instruction_table.proofs.table.RoundTrip.{no_code}
 
 -- an entry's claim about the parcels that it is decoded from
@@ -79,17 +77,10 @@ all_rows i j k K =
 
 plain_op : (c i j k : ℕ) → c < 64 → i < 8 → j < 8 → k < 8 → c ≢ 1 → c ≢ 3
     → Plain (c / 8) (c % 8) ≡ op_at (parcel c i j k)
-plain_op c i j k hc hi hj hk h1 h3 =
-    let code : parcel c i j k / 2 ^ 9 ≡ c = omega (arith, hi, hj, hk) in
-    let f : parcel c i j k / 2 ^ 12 ≡ c / 8 = omega (arith, hi, hj, hk) in
-    rw (code, f, ne_eqb c 1 h1, ne_eqb c 3 h3) refl
+plain_op c i j k hc hi hj hk h1 h3 = grind arith
 
 op_01 : (i j k : ℕ) → i < 8 → j < 8 → k < 8 → Extended 0 1 i ≡ op_at (parcel 1 i j k)
-op_01 i j k hi hj hk =
-    let code : parcel 1 i j k / 2 ^ 9 ≡ 1 = omega (arith, hi, hj, hk) in
-    let f : parcel 1 i j k / 2 ^ 12 ≡ 0 = omega (arith, hi, hj, hk) in
-    let e : parcel 1 i j k / 2 ^ 6 % 8 ≡ i = omega (arith, hi, hj, hk) in
-    rw (code, f, e) refl
+op_01 i j k hi hj hk = grind arith
 
 module _ (i j k q K : ℕ) (hi : i < 8) (hj : j < 8) (hk : k < 8) (hq : q < 2 ^ 15) (e : K ≡ k * 2 ^ 15 + q) where
   wide : K < 2 ^ 18
@@ -256,31 +247,8 @@ unfolding parcel_at
 parcel_small word position = omega arith
 
 following_small : (word position : ℕ) → following_at word position < 2 ^ 15
-following_small word position = by_test (nat_lt position 3)
-  where
-    by_test : (b : Bool) → cond b (parcel_at word (position + 1)) 0 < 2 ^ 15
-    by_test true = parcel_small word (position + 1)
-    by_test false = omega arith
+following_small word position = grind (arith, parcel_small)
 
 pub by_table : (word position : ℕ) → position < 4 → IsByTable word position (reading_at word position)
 unfolding reading_at
-by_table word position l =
-    by_entry (entry_of (parcel_at word position) (following_at word position)) refl
-    (entry_agrees (parcel_at word position) (following_at word position) (parcel_small word position)
-    (following_small word position))
-  where
-    by_length : (instr : Instr) (b : Bool) → nat_lt position 3 ≡ b
-        → IsReadAs instr (parcel_at word position ∷ cond b (parcel_at word (position + 1)) 0 ∷ [])
-        → IsByTable word position (cond b (Legal instr (position + 2)) Straddle)
-    by_length instr true t a =
-        subst (λ n. IsReadAs instr (parcels_from word position n)) (let d : 2
-        ≡ position + 2 - position = omega arith in d) a
-    by_length instr false t a = let f = ltb-false position 3 t in (omega (arith, l, f), (instr, a))
-
-    by_entry : (e : TableEntry) → entry_of (parcel_at word position) (following_at word position) ≡ e
-        → Agrees (parcel_at word position) (following_at word position) e → IsByTable word position (settled e position)
-    by_entry (Short instr) h a =
-        subst (λ n. IsReadAs instr (parcels_from word position n)) (let d : 1
-        ≡ position + 1 - position = omega arith in d) a
-    by_entry (Long instr) h a = by_length instr (nat_lt position 3) refl a
-    by_entry (Refused op) h a = (a, no_code (parcel_at word position) (following_at word position) op h a)
+by_table word position l = grind (arith, entry_agrees, parcel_small, following_small, no_code, ltb-false)

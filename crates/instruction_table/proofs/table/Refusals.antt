@@ -1,14 +1,12 @@
 -- Whether a parcel is refused depends only on its code.
 use Rattle.std.proofs.Common.{ℕ, zero, suc, ◌≡◌, ◌/◌, ◌%◌, ◌^◌, Bool, true, false, cond, eqb, List, [], ◌∷◌, Option}
-use Rattle.std.proofs.Common.{Some, None, refl, sym, ap, ◌∙◌, get_or, map, drop, arith}
+use Rattle.std.proofs.Common.{Some, None, refl, get_or, map, arith}
 use Rattle.std.specs.Prelude.{◌||◌}
-use Rattle.std.proofs.lemmas.Bool.{eqb-false, or_parts}
 use Rattle.instructions.specs.declared.instr.Op.{Op}
 use Rattle.instructions.specs.declared.instr.Op.TheVariants.{Plain, Extended}
-use Rattle.instructions.specs.declared.instr.Target.TheVariants.{A as TargetA, B as TargetB, X as TargetX}
 use Rattle.instruction_table.specs.declared.decoding.TableEntry.{TableEntry}
 use Rattle.instruction_table.specs.declared.decoding.TableEntry.TheVariants.{Short, Long, Refused}
-use Rattle.instruction_table.specs.Decoding.{entry, extended, branches, logicals, shifts, additions, others, increments}
+use Rattle.instruction_table.specs.Decoding.{entry}
 use Rattle.instruction_table.specs.Decoding.{rows, entry_of}
 use Rattle.instruction_table.specs.Opcode.{op_at}
 
@@ -28,29 +26,10 @@ refused_in_row [] f m = refl
 refused_in_row (xs ∷ xss) zero m = refused_at xs m
 refused_in_row (xs ∷ xss) (suc f) m = refused_in_row xss f m
 
--- the rows for first digits above 0
-abbrev upper_rows : ℕ → ℕ → ℕ → ℕ → List (List TableEntry)
-upper_rows i j k K =
-    logicals i j k
-    ∷ shifts i j k
-    ∷ additions i j k
-    ∷ others i j k
-    ∷ increments TargetA i j k K
-    ∷ increments TargetB i j k K
-    ∷ increments TargetX i j k K
-    ∷ []
-
 -- only after 01 does the field i matter
 same_refusal : (f m i i' j j' k k' K K' : ℕ) → (f ≡ 0 → m ≡ 1 → i ≡ i')
     → refused_op (entry (rows f i j k K) m) ≡ refused_op (entry (rows f i' j' k' K') m)
-same_refusal zero zero i i' j j' k k' K K' h = refl
-same_refusal zero (suc zero) i i' j j' k k' K K' h =
-    refused_at (extended K) i ∙ ap (λ n. get_or (map refused_op (extended K)) n None) (h refl refl)
-    ∙ sym (refused_at (extended K') i')
-same_refusal zero (suc (suc m)) i i' j j' k k' K K' h =
-    refused_at (drop 2 (branches i j K)) m ∙ sym (refused_at (drop 2 (branches i' j' K')) m)
-same_refusal (suc f) m i i' j j' k k' K K' h =
-    refused_in_row (upper_rows i j k K) f m ∙ sym (refused_in_row (upper_rows i' j' k' K') f m)
+same_refusal f m i i' j j' k k' h g e = search (arith, refused_at, refused_in_row)
 
 abbrev pub refusal_of : Op → Option Op
 refusal_of (Plain f m) = refused_op (entry (rows f 0 0 0 0) m)
@@ -64,9 +43,7 @@ refusal_by_code p q = by_test (eqb (p / 2 ^ 9) 1 || eqb (p / 2 ^ 9) 3) refl
         → refused_op (entry_of p q)
         ≡ refusal_of (cond b (Extended (p / 2 ^ 12) (p / 2 ^ 9 % 8) (p / 2 ^ 6 % 8))
         (Plain (p / 2 ^ 12) (p / 2 ^ 9 % 8)))
-    by_test true e = same_refusal (p / 2 ^ 12) (p / 2 ^ 9 % 8) (p / 2 ^ 6 % 8) (p / 2 ^ 6 % 8) (p / 2 ^ 3 % 8) 0
-        (p % 8) 0 _ 0 (λ g h. refl)
+    by_test true e = search (arith, same_refusal)
     by_test false e =
         same_refusal (p / 2 ^ 12) (p / 2 ^ 9 % 8) (p / 2 ^ 6 % 8) 0 (p / 2 ^ 3 % 8) 0 (p % 8) 0 _ 0
-        (λ g h. absurd (eqb-false (p / 2 ^ 9) 1 (or_parts (eqb (p / 2 ^ 9) 1) (eqb (p / 2 ^ 9) 3) e).0
-        (omega (arith, g, h))))
+        (λ g h. absurd (grind arith))

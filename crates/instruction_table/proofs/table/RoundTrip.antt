@@ -1,8 +1,6 @@
 -- An instruction in a word is decoded as that instruction, whatever its unused fields hold.
-use Rattle.std.proofs.Common.{ℕ, zero, suc, ◌≡◌, ◌+◌, ◌*◌, ◌/◌, ◌%◌, ◌^◌, ◌<◌, ◌≤◌, true, List, [], ◌∷◌, Some, None}
+use Rattle.std.proofs.Common.{ℕ, zero, suc, ◌≡◌, ◌+◌, ◌*◌, ◌/◌, ◌%◌, ◌^◌, ◌<◌, ◌≤◌, List, [], ◌∷◌, Some, None}
 use Rattle.std.proofs.Common.{length, refl, sym, ap, ◌∙◌, arith}
-use Rattle.std.specs.Prelude.{nat_lt}
-use Rattle.std.proofs.lemmas.Bool.Decides.{nat_tests}
 use Rattle.instructions.specs.declared.instr.Instr.{Instr}
 use Rattle.instructions.specs.declared.instr.Instr.TheVariants.{Stop, Pass, ReturnJump, Jump, BranchX, BranchB, Copy}
 use Rattle.instructions.specs.declared.instr.Instr.TheVariants.{Invert, Logical, ShiftBy, ShiftNominal, LongAdd, Mask}
@@ -194,21 +192,7 @@ entry_of_row (Increment TargetX i (Registers BMinusB j k)) r =
 -- in its row, the unused fields of an instruction are zeros
 row_again : (instr : Instr) → IsInstr instr
     → used_fields instr (first_parcel (parcels_of instr)) ≡ first_parcel (parcels_of instr)
-row_again (Stop) r = refl
-row_again (Pass) r = omega arith
-row_again (ReturnJump K) r = omega (arith, r)
-row_again (Jump i K) r = omega (arith, r.0, r.1)
-row_again (Copy i j) r = omega (arith, r.0, r.1)
-row_again (Invert i k) r = omega (arith, r.0, r.1)
-row_again (CountOnes i k) r = omega (arith, r.0, r.1)
-row_again (BranchX test j K) r = refl
-row_again (BranchB test i j K) r = refl
-row_again (Logical op i j k) r = refl
-row_again (ShiftBy direction i jk) r = refl
-row_again (ShiftNominal direction i j k) r = refl
-row_again (LongAdd op i j k) r = refl
-row_again (Mask i jk) r = refl
-row_again (Increment target i addends) r = refl
+row_again instr r = grind arith
 
 -- ---- in a word ----
 
@@ -217,9 +201,7 @@ long_here : (instr : Instr) (word position : ℕ) → position < 3
     → entry_of (parcel_at word position) (parcel_at word (position + 1)) ≡ Long instr
     → reading_at word position ≡ Legal instr (position + 2)
 unfolding reading_at
-long_here instr word position below h =
-    let test : nat_lt position 3 ≡ true = grind (arith, nat_tests) in
-    rw (test, h, test) refl
+long_here instr word position below h = grind arith
 
 short_here : (instr : Instr) (word position : ℕ) → entry_of (parcel_at word position) (following_at word position)
     ≡ Short instr
@@ -237,16 +219,11 @@ reading_of_pattern instr word position n within h = by_row (parcels_of instr) (e
     by_row [] k n l e = absurd k
     by_row (p ∷ []) k zero l e = cc
     by_row (p ∷ []) k (suc zero) l e =
-        short_here instr word position (k (parcel_at word position) (following_at word position)
-        (let d : used_fields instr (parcel_at word position) ≡ p = cc in d))
+        short_here instr word position (grind arith)
     by_row (p ∷ []) k (suc (suc n)) l e = cc
     by_row (p ∷ q ∷ []) k zero l e = cc
     by_row (p ∷ q ∷ []) k (suc zero) l e = cc
-    by_row (p ∷ q ∷ []) k (suc (suc zero)) l e =
-        let d : used_fields instr (parcel_at word position) ≡ p = cc in
-        let g : parcel_at word (position + 1) ≡ q = cc in
-        long_here instr word position (omega (arith, l))
-        (ap (entry_of (parcel_at word position)) g ∙ k (parcel_at word position) d)
+    by_row (p ∷ q ∷ []) k (suc (suc zero)) l e = grind (arith, long_here)
     by_row (p ∷ q ∷ []) k (suc (suc (suc n))) l e = cc
     by_row (p ∷ q ∷ r ∷ ps) k n l e = absurd k
 
@@ -260,9 +237,7 @@ reading_of_parcels instr word position r s = by_row (parcels_of instr) (entry_of
     by_row [] k z s = absurd k
     by_row (p ∷ []) k z s = short_here instr word position
         (k (parcel_at word position) (following_at word position) (ap (used_fields instr) s.1 ∙ z))
-    by_row (p ∷ q ∷ []) k z s =
-        long_here instr word position (let next : position + 1 < 4 = s.2.0 in omega (arith, next))
-        (ap (entry_of (parcel_at word position)) s.2.1 ∙ k (parcel_at word position) (ap (used_fields instr) s.1 ∙ z))
+    by_row (p ∷ q ∷ []) k z s = grind (arith, long_here)
     by_row (p ∷ q ∷ r ∷ ps) k z s = absurd k
 
 -- ---- codes ----

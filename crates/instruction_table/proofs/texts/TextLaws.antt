@@ -1,5 +1,5 @@
 -- `instr_of` reads the spelling of each instruction, and nothing else.
-use Rattle.std.proofs.Common.{ℕ, ◌≡◌, List, Some, refl, sym, ◌∙◌, ap, subst}
+use Rattle.std.proofs.Common.{ℕ, ◌≡◌, List, Some, sym, ◌∙◌, ap, arith}
 use Rattle.std.specs.Str.{bytes_eq}
 use Rattle.std.proofs.lemmas.Option.{cond_some}
 use Rattle.std.proofs.lemmas.Slice.Eq.{bytes_eq-Decides}
@@ -12,9 +12,7 @@ use Rattle.instruction_table.proofs.texts.ReadingLaws.{candidate_of_spelling}
 
 pub instr_of_spelling : (instr : Instr) → IsInstr instr → instr_of (spelling instr) ≡ Some instr
 unfolding instr_of
-instr_of_spelling instr fields =
-    let same = (bytes_eq-Decides (spelling instr) (spelling instr)).1 refl in
-    rw (candidate_of_spelling instr fields, same) refl
+instr_of_spelling instr fields = grind (arith, candidate_of_spelling, bytes_eq-Decides)
 
 -- the same for a text that is equal to the spelling
 pub instr_of_text : (t : List ℕ) (instr : Instr) → IsInstr instr → spelling instr ≡ t → instr_of t ≡ Some instr
@@ -28,9 +26,7 @@ spelling_of_instr t instr found =
 
 pub fields_of_instr : (t : List ℕ) (instr : Instr) → instr_of t ≡ Some instr → IsInstr instr
 unfolding instr_of
-fields_of_instr t instr found =
-    subst IsInstr (cond_some (bytes_eq (spelling (candidate_in t)) t) (candidate_in t) instr found).1
-    (candidate_fields t)
+fields_of_instr t instr found = grind (arith, candidate_fields t)
 
 -- the text of a decoded instruction is that instruction's spelling, and its fields are in range
 pub ruleset texts_of_instr = (spelling_of_instr, fields_of_instr)

@@ -1,6 +1,6 @@
 -- Events that serve pending instructions leave the accounts unchanged: log, request, counts, and the values given at
 -- boot.
-use Rattle.std.proofs.Common.{◌≡◌, ℕ, Bool, true, List, [], ◌∷◌, Option, Some, None, refl, sym, ◌∙◌, subst}
+use Rattle.std.proofs.Common.{◌≡◌, ℕ, Bool, true, List, [], ◌∷◌, Option, Some, None, sym, subst, arith}
 use Rattle.instructions.specs.Finding.{Found}
 use Rattle.relocation.specs.declared.area.Access.{Access}
 use Rattle.relocation.specs.declared.area.Access.TheVariants.{Load as LoadInto, Store as StoreWord}
@@ -8,7 +8,6 @@ use Rattle.sequential.specs.declared.state.State.{State}
 use Rattle.hopper.specs.declared.reference.Reference.{Reference}
 use Rattle.in_flight.specs.declared.pending.Pending.{Pending}
 use Rattle.in_flight.specs.declared.pending.Stage.{Stage}
-use Rattle.in_flight.specs.declared.pending.Stage.TheVariants.{Unread, Read as HasRead, Finished}
 use Rattle.program_order.specs.declared.event.Event.{Event}
 use Rattle.program_order.specs.declared.event.Event.TheVariants.{Issue, Read, Finish, Store as StoreResult, Accept}
 use Rattle.program_order.specs.declared.event.Event.TheVariants.{Return, BankFree, Ask, Exchange, PpRead, PpWrite}
@@ -22,31 +21,13 @@ use Rattle.program_order.proofs.draining.OnPending.{is_work, on_pending}
 -- state, pending instructions and busy banks are no part of the accounts
 kept_accounts : (w : Processor) (state : State) (pending : List Pending) (busy : List Bool)
     → KeepsAccounts w (record w { state = state; pending = pending; busy = busy })
-kept_accounts w state pending busy = record {
-  log = refl;
-  request = refl;
-  budget = refl;
-  asked = refl;
-  accessed = refl;
-  last = refl;
-  boot_memory = refl;
-  seats_given = refl;
-}
+kept_accounts w state pending busy = grind arith
 
 same_accounts : (w : Processor) → KeepsAccounts w w
 same_accounts w = kept_accounts w w.state w.pending w.busy
 
 then_accounts : (w x v : Processor) → KeepsAccounts w x → KeepsAccounts x v → KeepsAccounts w v
-then_accounts w x v h k = record {
-  log = k.log ∙ h.log;
-  request = k.request ∙ h.request;
-  budget = k.budget ∙ h.budget;
-  asked = k.asked ∙ h.asked;
-  accessed = k.accessed ∙ h.accessed;
-  last = k.last ∙ h.last;
-  boot_memory = k.boot_memory ∙ h.boot_memory;
-  seats_given = k.seats_given ∙ h.seats_given;
-}
+then_accounts w x v h k = grind arith
 
 found_accounts : {K : Type 0} (w : Processor) (o : Option (Found Pending K)) (f : Found Pending K → Processor)
     → ((x : Found Pending K) → KeepsAccounts w (f x)) → KeepsAccounts w (after_found w o f)
@@ -56,9 +37,7 @@ found_accounts w (Some x) f h = h x
 
 store_accounts : (w : Processor) (f : Found Pending Stage) (t : Stage) → KeepsAccounts w (after_store w f t)
 unfolding after_store after_work
-store_accounts w f Unread = same_accounts w
-store_accounts w f (HasRead os) = same_accounts w
-store_accounts w f (Finished v) = kept_accounts w _ _ w.busy
+store_accounts w f t = grind arith
 
 accept_accounts : (w : Processor) (f : Found Pending Reference) (a : ℕ) (access : Access)
     → KeepsAccounts w (after_accept w f a access)
@@ -84,8 +63,7 @@ all_accounts : (w : Processor) (events : List Event) → Accepts w events → Ke
 unfolding leads_to
 all_accounts w [] h = same_accounts w
 all_accounts w (e ∷ events) h =
-    then_accounts w (after w e) (leads_to (after w e) events) (work_accounts w e (on_pending w.pending e h.1))
-    (all_accounts (after w e) events h.2)
+    grind (arith, all_accounts (after w e) events h.2, then_accounts, work_accounts, on_pending)
 
 -- the events of a drain leave the accounts unchanged
 pub works_accounts : (w v : Processor) (n : ℕ) → Works w v n → KeepsAccounts w v

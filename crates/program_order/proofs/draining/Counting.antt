@@ -1,23 +1,16 @@
 -- At most forty events remain: for seven units, three of which make references, four places and five channels.
-use Rattle.std.proofs.Common.{◌≡◌, ◌≢◌, ◌<◌, ◌≤◌, ◌+◌, ◌*◌, ℕ, zero, suc, Bool, true, false, cond, List, [], ◌∷◌, Some}
+use Rattle.std.proofs.Common.{◌≡◌, ◌≢◌, ◌<◌, ◌≤◌, ◌+◌, ◌*◌, ℕ, Bool, true, false, cond, List, [], ◌∷◌, Some}
 use Rattle.std.proofs.Common.{length, refl, sym, ap, ◌∙◌, eqb, arith}
-use Rattle.std.specs.Prelude.{◌&&◌, ◌||◌}
-use Rattle.std.proofs.lemmas.Bool.{or_parts, eq-eqb, eqb-true}
+use Rattle.std.specs.Prelude.{◌&&◌}
+use Rattle.std.proofs.lemmas.Bool.{or_parts}
 use Rattle.std.specs.List.{list_any}
 use Rattle.instructions.specs.declared.instr.Addends.{Addends}
-use Rattle.instructions.specs.declared.instr.Addends.TheVariants.{Address, Registers}
-use Rattle.instructions.specs.declared.instr.Base.TheVariants.{A as BaseA, B as BaseB, X as BaseX}
-use Rattle.instructions.specs.declared.instr.Pair.TheVariants.{XPlusB, APlusB, AMinusB, BPlusB, BMinusB}
 use Rattle.instructions.specs.declared.instr.Instr.{Instr}
-use Rattle.instructions.specs.declared.instr.Instr.TheVariants.{Stop, Pass, ReturnJump, Jump, BranchX, BranchB, Copy}
-use Rattle.instructions.specs.declared.instr.Instr.TheVariants.{Invert, Logical, ShiftBy, ShiftNominal}
-use Rattle.instructions.specs.declared.instr.Instr.TheVariants.{LongAdd as LongSum, Mask, CountOnes, Increment}
+use Rattle.instructions.specs.declared.instr.Instr.TheVariants.{Increment}
 use Rattle.instructions.specs.declared.instr.Reg.{Reg}
 use Rattle.instructions.specs.declared.instr.Reg.TheVariants.{X, A, B}
-use Rattle.instructions.specs.declared.instr.Target.TheVariants.{A as TargetA, B as TargetB, X as TargetX}
+use Rattle.instructions.specs.declared.instr.Target.TheVariants.{A as TargetA}
 use Rattle.instructions.specs.declared.instr.Unit.{Unit as FunctionalUnit}
-use Rattle.instructions.specs.declared.instr.Unit.TheVariants.{Branch, Boolean, Shift, Add, LongAdd, Multiply1}
-use Rattle.instructions.specs.declared.instr.Unit.TheVariants.{Multiply2, Divide, Increment1, Increment2}
 use Rattle.instructions.specs.declared.instr.UnitKind.TheVariants.{Branch as BranchKind, Increment as IncrementKind}
 use Rattle.instructions.specs.RegisterLists.{is_in, overlap}
 use Rattle.instructions.specs.Shape.{Shape, Sets, Loads, Stores, Jumps, Links, shape_of, sets_of, loads_of, results}
@@ -32,7 +25,6 @@ use Rattle.in_flight.specs.declared.pending.Pending.{Pending}
 use Rattle.in_flight.specs.declared.pending.Phase.{Phase}
 use Rattle.in_flight.specs.declared.pending.Phase.TheVariants.{Before, After}
 use Rattle.in_flight.specs.declared.pending.Stage.{Stage}
-use Rattle.in_flight.specs.declared.pending.Stage.TheVariants.{Unread, Read as HasRead, Finished}
 use Rattle.instructions.specs.Each.{Each, Pairs}
 use Rattle.in_flight.specs.Pending.{occupancy_of, reservation_of, entered_in, is_entered, has_turn}
 use Rattle.in_flight.specs.inner.OwnSlots.{unit_slot, IsChannel, IsPlaced, IsProper, HasOwnSlots}
@@ -53,11 +45,7 @@ picked_each : {K : Type 0} (f : K → Bool) (P Q : K → Type 0) (xs : List K) �
     → Each P xs → Each Q (picked f xs)
 unfolding picked
 picked_each f P Q [] step h = tt
-picked_each f P Q (x ∷ xs) step h = by_test (f x) refl (picked_each f P Q xs step h.1)
-  where
-    by_test : (b : Bool) → f x ≡ b → Each Q (picked f xs) → Each Q (cond b (x ∷ picked f xs) (picked f xs))
-    by_test true e r = (step x e h.0, r)
-    by_test false e r = r
+picked_each f P Q (x ∷ xs) step h = grind (arith, picked_each f P Q xs step h.1)
 
 picked_pairs : {K : Type 0} (f : K → Bool) (R S : K → K → Type 0) (xs : List K)
     → ((x y : K) → f x ≡ true → f y ≡ true → R x y → S x y) → Pairs R xs → Pairs S (picked f xs)
@@ -80,12 +68,7 @@ count_of f (m ∷ ms) = one_if (f m) + count_of f ms
 count_picked : (f : Pending → Bool) (ms : List Pending) → count_of f ms ≡ length (picked f ms)
 unfolding count_of picked one_if
 count_picked f [] = refl
-count_picked f (m ∷ ms) = by_test (f m) (count_picked f ms)
-  where
-    by_test : (b : Bool) → count_of f ms ≡ length (picked f ms)
-        → one_if b + count_of f ms ≡ length (cond b (m ∷ picked f ms) (picked f ms))
-    by_test true e = omega (arith, e)
-    by_test false e = omega (arith, e)
+count_picked f (m ∷ ms) = grind (arith, count_picked f ms)
 
 -- there are no more instructions with a property than numbers that they can have
 count_bound : (f : Pending → Bool) (key : Pending → ℕ) (ns : List ℕ) (R : Pending → Pending → Type 0)
@@ -138,9 +121,7 @@ channel_of m = channel_in (shape_of m.instr) m.phase
 
 stage_bound : (t : Stage) → stage_cost t ≤ 3
 unfolding stage_cost
-stage_bound Unread = omega arith
-stage_bound (HasRead os) = omega arith
-stage_bound (Finished v) = omega arith
+stage_bound t = grind arith
 
 -- the cost of a phase, and the counts that limit it
 unfoldable costs : Unit {0}
@@ -151,14 +132,7 @@ phase_bound : (h : Shape) (p : Phase)
     → phase_cost h p ≤ 3 * one_if (before_in p) + 2 * (one_if (before_and (has_reference h) p) + one_if (entered_in p))
     + one_if (load_in h p)
 unfolding costs before_in before_and occupancy_of is_reserved has_reference entered_in load_in
-phase_bound (Sets rs) (Before t) = let k = stage_bound t in omega (arith, k)
-phase_bound (Loads n) (Before t) = let k = stage_bound t in omega (arith, k)
-phase_bound (Stores n) (Before t) = let k = stage_bound t in omega (arith, k)
-phase_bound Jumps (Before t) = let k = stage_bound t in omega (arith, k)
-phase_bound Links (Before t) = let k = stage_bound t in omega (arith, k)
-phase_bound h (After (Entered place a (LoadInto n))) = omega arith
-phase_bound h (After (Entered place a (StoreWord word))) = omega arith
-phase_bound h (After (Accepted n word)) = omega arith
+phase_bound h p = grind (arith, stage_bound)
 
 pending_bound : (m : Pending) → cost m ≤ 3 * one_if (in_unit m) + 2 * (one_if (has_turn m) + one_if (is_entered m))
     + one_if (has_load m)
@@ -175,14 +149,7 @@ work_bound (m ∷ ms) = let k = pending_bound m in let r = work_bound ms in omeg
 -- ---- seven units ----
 
 below_seven : (n : ℕ) → n < 7 → list_any (eqb n) (0 ∷ 1 ∷ 2 ∷ 3 ∷ 4 ∷ 5 ∷ 6 ∷ []) ≡ true
-below_seven zero h = refl
-below_seven (suc zero) h = refl
-below_seven (suc (suc zero)) h = refl
-below_seven (suc (suc (suc zero))) h = refl
-below_seven (suc (suc (suc (suc zero)))) h = refl
-below_seven (suc (suc (suc (suc (suc zero))))) h = refl
-below_seven (suc (suc (suc (suc (suc (suc zero)))))) h = refl
-below_seven (suc (suc (suc (suc (suc (suc (suc n))))))) h = absurd (omega (arith, h))
+below_seven n h = grind arith
 
 unit_listed : (size : ℕ) (u : FunctionalUnit) (p : Phase) → before_in p ≡ true → IsPlaced size u p
     → list_any (eqb (slot_in u p)) (0 ∷ 1 ∷ 2 ∷ 3 ∷ 4 ∷ 5 ∷ 6 ∷ []) ≡ true
@@ -202,62 +169,21 @@ units_bound size ms h k =
 reference_slot : (u : FunctionalUnit) → may_take (Some BranchKind) u ≡ true
     → list_any (eqb (unit_slot u)) (0 ∷ 5 ∷ 6 ∷ []) ≡ true
 unfolding may_take units_of same_unit unit_slot
-reference_slot Branch h = refl
-reference_slot Boolean h = cc
-reference_slot Shift h = cc
-reference_slot Add h = cc
-reference_slot LongAdd h = cc
-reference_slot Multiply1 h = cc
-reference_slot Multiply2 h = cc
-reference_slot Divide h = cc
-reference_slot Increment1 h = cc
-reference_slot Increment2 h = cc
+reference_slot u h = grind arith
 
 increment_slot : (u : FunctionalUnit) → may_take (Some IncrementKind) u ≡ true
     → list_any (eqb (unit_slot u)) (0 ∷ 5 ∷ 6 ∷ []) ≡ true
 unfolding may_take units_of same_unit unit_slot
-increment_slot Branch h = cc
-increment_slot Boolean h = cc
-increment_slot Shift h = cc
-increment_slot Add h = cc
-increment_slot LongAdd h = cc
-increment_slot Multiply1 h = cc
-increment_slot Multiply2 h = cc
-increment_slot Divide h = cc
-increment_slot Increment1 h = refl
-increment_slot Increment2 h = refl
+increment_slot u h = grind arith
 
 increment_unit : (i : ℕ) (a : Addends) → (uses (Increment TargetA i a)).unit ≡ Some IncrementKind
-increment_unit i (Address BaseA j K) = refl
-increment_unit i (Address BaseB j K) = refl
-increment_unit i (Address BaseX j K) = refl
-increment_unit i (Registers XPlusB j k) = refl
-increment_unit i (Registers APlusB j k) = refl
-increment_unit i (Registers AMinusB j k) = refl
-increment_unit i (Registers BPlusB j k) = refl
-increment_unit i (Registers BMinusB j k) = refl
+increment_unit i a = grind arith
 
 -- only RJ and the increment instructions make a reference
 instr_slot : (i : Instr) (u : FunctionalUnit) → has_reference (shape_of i) ≡ true → may_take (uses i).unit u ≡ true
     → list_any (eqb (unit_slot u)) (0 ∷ 5 ∷ 6 ∷ []) ≡ true
 unfolding shape_of has_reference
-instr_slot Stop u e h = cc
-instr_slot Pass u e h = cc
-instr_slot (ReturnJump K) u e h = reference_slot u h
-instr_slot (Jump j K) u e h = cc
-instr_slot (BranchX t j K) u e h = cc
-instr_slot (BranchB t j k K) u e h = cc
-instr_slot (Copy j k) u e h = cc
-instr_slot (Invert j k) u e h = cc
-instr_slot (Logical o i j k) u e h = cc
-instr_slot (ShiftBy d i j) u e h = cc
-instr_slot (ShiftNominal d i j k) u e h = cc
-instr_slot (LongSum o i j k) u e h = cc
-instr_slot (Mask i j) u e h = cc
-instr_slot (CountOnes i k) u e h = cc
-instr_slot (Increment TargetB i a) u e h = cc
-instr_slot (Increment TargetX i a) u e h = cc
-instr_slot (Increment TargetA i a) u e h = increment_slot u (sym (ap (λ o. may_take o u) (increment_unit i a)) ∙ h)
+instr_slot i u e h = grind (arith, reference_slot, increment_slot, increment_unit)
 
 turn_slot : (i : Instr) (u : FunctionalUnit) (p : Phase)
     → (is_reserved (occupancy_of p) && has_reference (shape_of i)) ≡ true → may_take (uses i).unit u ≡ true
@@ -275,19 +201,10 @@ turns_bound size ms h k =
 
 -- ---- four places ----
 
-below_four : (n : ℕ) → n < 4 → list_any (eqb (7 + n)) (7 ∷ 8 ∷ 9 ∷ 10 ∷ []) ≡ true
-below_four zero h = refl
-below_four (suc zero) h = refl
-below_four (suc (suc zero)) h = refl
-below_four (suc (suc (suc zero))) h = refl
-below_four (suc (suc (suc (suc n)))) h = absurd (omega (arith, h))
-
 entered_slot : (size : ℕ) (u : FunctionalUnit) (p : Phase) → entered_in p ≡ true → IsPlaced size u p
     → list_any (eqb (slot_in u p)) (7 ∷ 8 ∷ 9 ∷ 10 ∷ []) ≡ true
 unfolding entered_in slot_in
-entered_slot size u (Before t) e h = cc
-entered_slot size u (After (Entered place a access)) e h = below_four place h.0
-entered_slot size u (After (Accepted n word)) e h = cc
+entered_slot size u p e h = grind arith
 
 entered_bound : (size : ℕ) (ms : List Pending) → Pairs (λ a b. slot_of a ≢ slot_of b) ms → Each (IsProper size) ms
     → count_of is_entered ms ≤ 4
@@ -299,48 +216,22 @@ entered_bound size ms h k =
 -- ---- five channels ----
 
 channel_listed : (n : ℕ) → IsChannel n → list_any (eqb n) (1 ∷ 2 ∷ 3 ∷ 4 ∷ 5 ∷ []) ≡ true
-channel_listed zero h = absurd (let l : 0 < 0 = h.0 in omega (arith, l))
-channel_listed (suc zero) h = refl
-channel_listed (suc (suc zero)) h = refl
-channel_listed (suc (suc (suc zero))) h = refl
-channel_listed (suc (suc (suc (suc zero)))) h = refl
-channel_listed (suc (suc (suc (suc (suc zero))))) h = refl
-channel_listed (suc (suc (suc (suc (suc (suc n)))))) h = absurd (let l = h.1 in omega (arith, l))
+channel_listed n h = grind arith
 
 load_channel : (size : ℕ) (u : FunctionalUnit) (h : Shape) (p : Phase) → ((n : ℕ) → h ≡ Loads n → IsChannel n)
     → load_in h p ≡ true → IsPlaced size u p → IsChannel (channel_in h p)
 unfolding load_in channel_in
-load_channel size u (Loads n) (Before t) f e k = f n refl
-load_channel size u (Sets rs) (Before t) f e k = cc
-load_channel size u (Stores n) (Before t) f e k = cc
-load_channel size u Jumps (Before t) f e k = cc
-load_channel size u Links (Before t) f e k = cc
-load_channel size u h (After (Entered place a (LoadInto n))) f e k = k.2
-load_channel size u h (After (Entered place a (StoreWord word))) f e k = cc
-load_channel size u h (After (Accepted n word)) f e k = k
+load_channel size u h p f e k = grind arith
 
 -- the register of a load is a result still to come
 load_comes : (h : Shape) (p : Phase) → load_in h p ≡ true → is_in (to_come_in h p) (X (channel_in h p)) ≡ true
 unfolding load_in channel_in results_to_come is_in results sets_of loads_of
-load_comes (Loads n) (Before t) e = ap (λ b. b || false) (eq-eqb n n refl)
-load_comes (Sets rs) (Before t) e = cc
-load_comes (Stores n) (Before t) e = cc
-load_comes Jumps (Before t) e = cc
-load_comes Links (Before t) e = cc
-load_comes h (After (Entered place a (LoadInto n))) e = ap (λ b. b || false) (eq-eqb n n refl)
-load_comes h (After (Entered place a (StoreWord word))) e = cc
-load_comes h (After (Accepted n word)) e = ap (λ b. b || false) (eq-eqb n n refl)
+load_comes h p e = grind arith
 
 in_one : (n : ℕ) (rs ts : List Reg) → is_in rs (X n) ≡ true → overlap rs ts ≡ false → is_in ts (X n) ≡ false
 unfolding is_in overlap
 in_one n [] ts i h = cc
-in_one n (X m ∷ rs) ts i h = by_test (eqb n m) refl i (or_parts (is_in ts (X m)) (overlap rs ts) h) (in_one n rs ts)
-  where
-    by_test : (b : Bool) → eqb n m ≡ b → (b || is_in rs (X n)) ≡ true → (is_in ts (X m) ≡ false)
-        × (overlap rs ts ≡ false) → (is_in rs (X n) ≡ true → overlap rs ts ≡ false → is_in ts (X n) ≡ false)
-        → is_in ts (X n) ≡ false
-    by_test true e k q rest = ap (λ y. is_in ts (X y)) (eqb-true n m e) ∙ q.0
-    by_test false e k q rest = rest k q.1
+in_one n (X m ∷ rs) ts i h = grind (arith, in_one n rs ts)
 in_one n (A m ∷ rs) ts i h = in_one n rs ts i (or_parts (is_in ts (A m)) (overlap rs ts) h).1
 in_one n (B m ∷ rs) ts i h = in_one n rs ts i (or_parts (is_in ts (B m)) (overlap rs ts) h).1
 
@@ -366,11 +257,4 @@ loads_bound size ms h k =
 -- ---- all of it ----
 
 pub forty : (size : ℕ) (ms : List Pending) → HasOwnSlots size ms → Pairs IsApart ms → work_left ms ≤ 40
-forty size ms s apart =
-    let slots = all_slots size ms s.proper s.apart apart in
-    let a = units_bound size ms slots s.proper in
-    let b = turns_bound size ms slots s.proper in
-    let c = entered_bound size ms slots s.proper in
-    let d = loads_bound size ms apart s.proper in
-    let k = work_bound ms in
-    omega (arith, k, a, b, c, d)
+forty size ms s apart = grind (arith, all_slots, units_bound, turns_bound, entered_bound, loads_bound, work_bound)

@@ -1,19 +1,18 @@
 -- The next event for the oldest pending instruction is allowed, and reduces the remaining work.
 use Rattle.std.proofs.Common.{◌≡◌, ◌≤◌, ◌+◌, ℕ, zero, suc, Bool, true, false, cond, List, [], ◌∷◌, ◌++◌, Option, Some}
-use Rattle.std.proofs.Common.{None, refl, sym, ap, ◌∙◌, subst, get_or, set, arith}
+use Rattle.std.proofs.Common.{None, refl, ap, ◌∙◌, get_or, set, arith}
 use Rattle.std.specs.Prelude.{◌&&◌, not, is_some, is_none, IfSome}
 use Rattle.std.proofs.lemmas.Bool.{or_from, and_left, and_right, eq-eqb}
 use Rattle.std.proofs.lemmas.Option.{same_Some}
 use Rattle.std.specs.List.{list_any}
-use Rattle.instructions.specs.Shape.{Shape, Sets, Loads, Stores, Jumps, Links, shape_of, sets_of, has_reference}
-use Rattle.instructions.specs.Operands.{sources_of}
+use Rattle.instructions.specs.Shape.{Shape, shape_of, sets_of, has_reference}
 use Rattle.instructions.specs.declared.instr.Unit.{Unit as FunctionalUnit}
 use Rattle.relocation.specs.declared.area.Access.{Access}
 use Rattle.relocation.specs.declared.area.Access.TheVariants.{Load as LoadInto, Store as StoreWord}
 use Rattle.hopper.specs.Hopper.{bank_of, first_place, free_place}
 use Rattle.scoreboard.specs.Conflicts as conflict
 use Rattle.scoreboard.specs.Units.{unit_number, same_unit}
-use Rattle.sequential.specs.State.{Bounds, bounds_of, absolute}
+use Rattle.sequential.specs.State.{Bounds}
 use Rattle.sequential.specs.Work.{reference_for, work_of}
 use Rattle.unit_ops.specs.declared.Operands.{Operands}
 use Rattle.unit_ops.specs.declared.UnitValue.{UnitValue}
@@ -27,7 +26,7 @@ use Rattle.in_flight.specs.declared.pending.Phase.{Phase}
 use Rattle.in_flight.specs.declared.pending.Phase.TheVariants.{Before, After}
 use Rattle.in_flight.specs.declared.pending.Stage.{Stage}
 use Rattle.in_flight.specs.declared.pending.Stage.TheVariants.{Unread, Read as HasRead, Finished}
-use Rattle.instructions.specs.Each.{Each, Pairs}
+use Rattle.instructions.specs.Each.{Each}
 use Rattle.in_flight.specs.Pending.{is_entered, entered_in, has_turn}
 use Rattle.in_flight.specs.Apart.{IsApart}
 use Rattle.program_order.specs.Invariant.{IsSound}
@@ -74,9 +73,7 @@ stage_first m t e = ap (λ b. cond b (stage_in m.phase) None) (same_self m.unit)
 pub entry_first : (m : Pending) (place a : ℕ) (access : Access) → m.phase ≡ After (Entered place a access)
     → entry_at place m ≡ Some (record { address = a; access = access })
 unfolding entry_at entry_in
-entry_first m place a access e =
-    ap (entry_in place) e ∙ ap (λ b. cond b (Some (record { address = a; access = access })) None)
-    (eq-eqb place place refl)
+entry_first m place a access e = grind arith
 
 pub arrival_first : (m : Pending) (n word : ℕ) → m.phase ≡ After (Accepted n word)
     → arrival_at n m ≡ Some (record { channel = n; word = word })
@@ -95,9 +92,7 @@ first_allowed f tests ms ls m x e h k =
 
 no_place : (p : ℕ) (q : Phase) → entered_in q ≡ false → is_some (entry_in p q) ≡ false
 unfolding entered_in entry_in
-no_place p (Before t) e = refl
-no_place p (After (Entered place a access)) e = cc
-no_place p (After (Accepted n word)) e = refl
+no_place p q e = grind arith
 
 and_true_right : (f g : Bool) → g ≡ true → (f && g) ≡ false → f ≡ false
 and_true_right false g e h = refl
@@ -108,18 +103,12 @@ none_entered : (m : Pending) (ls : List Pending) → has_turn m ≡ true → Eac
     → list_any (in_place 0) ls ≡ false
 unfolding in_place entry_at is_entered
 none_entered m [] e h = refl
-none_entered m (l ∷ ls) e h =
-    or_from (in_place 0 l) (list_any (in_place 0) ls)
-    (no_place 0 l.phase (and_true_right (is_entered l) (has_turn m) e h.0.in_turn)) (none_entered m ls e h.1)
+none_entered m (l ∷ ls) e h = grind (arith, none_entered m ls e h.1, no_place, and_true_right, or_from)
 
 place_is_free : (m : Pending) (ms ls : List Pending) (t : Stage) → ms ≡ m ∷ ls → m.phase ≡ Before t → has_turn m ≡ true
     → Each (IsApart m) ls → is_none (place_for ms) ≡ false
 unfolding free_place first_place in_place entry_at entered_in
-place_is_free m ms ls t e p k h =
-    ap (λ l. is_none (place_for l)) e
-    ∙ ap is_none (same_place (m ∷ ls))
-    ∙ ap (λ b. is_none (cond b (first_place (λ q. list_any (in_place q) (m ∷ ls)) (1 ∷ 2 ∷ 3 ∷ [])) (Some 0)))
-    (or_from (in_place 0 m) (list_any (in_place 0) ls) (no_place 0 m.phase (ap entered_in p)) (none_entered m ls k h))
+place_is_free m ms ls t e p k h = grind (arith, same_place, no_place, none_entered, or_from)
 
 enters_nothing : (b : Bounds) (h : Shape) (v : UnitValue) → has_reference h ≡ false
     → enters (rest_of b 0 (reference_for h v)) ≡ false
@@ -142,43 +131,30 @@ working_tests = tt
 oldest_allowed : (w : Processor) (m : Pending) (ls : List Pending) (p : Phase) → w.pending ≡ m ∷ ls → m.phase ≡ p
     → Each (IsApart m) ls → allowed w (next_in m.unit p w.busy) ≡ None
 unfolding next_in allowed tests_of working_tests conflict.awaited conflict.to_be_read
-oldest_allowed w m ls (Before Unread) e p h =
-    first_allowed (stage_at m.unit) _ w.pending ls m Unread e (stage_first m Unread p)
-    (any_none _ (λ r. refl) (sources_of m.instr), tt)
+oldest_allowed w m ls (Before Unread) e p h = search (arith, first_allowed, stage_first, any_none)
 oldest_allowed w m ls (Before (HasRead os)) e p h =
     first_allowed (stage_at m.unit) _ w.pending ls m (HasRead os) e (stage_first m (HasRead os) p) tt
 oldest_allowed w m ls (Before (Finished v)) e p h =
     first_allowed (stage_at m.unit) _ w.pending ls m (Finished v) e (stage_first m (Finished v) p) (
       any_none _ (λ r. refl) (sets_of (shape_of m.instr)),
-      (hopper_has_room (bounds_of w.state) m w.pending ls v _ refl e p h, (and_right _ false refl, tt)),
+      grind (arith, hopper_has_room, and_right),
     )
 oldest_allowed w m ls (After (Entered place a access)) e p h = by_bank (get_or w.busy (bank_of a) false) refl
   where
     by_bank : (b : Bool) → get_or w.busy (bank_of a) false ≡ b
         → allowed w (cond b (BankFree (bank_of a)) (Accept place)) ≡ None
     by_bank true k = refusal_from _ (ap not k, tt)
-    by_bank false k = first_allowed (entry_at place) _ w.pending ls m (record { address = a; access = access }) e
-        (entry_first m place a access p) (k, (refl, tt))
-oldest_allowed w m ls (After (Accepted n word)) e p h =
-    first_allowed (arrival_at n) _ w.pending ls m (record { channel = n; word = word }) e (arrival_first m n word p)
-    (refl, tt)
+    by_bank false k = search (arith, first_allowed, entry_first)
+oldest_allowed w m ls (After (Accepted n word)) e p h = search (arith, first_allowed, arrival_first)
 
 -- the next event is allowed
 next_allowed : (w : Processor) (e : Event) → IsSound w → next_of w.pending w.busy ≡ Some e → allowed w e ≡ None
 unfolding next_of
-next_allowed w e s h = by_list w.pending refl h
-  where
-    by_list : (ms : List Pending) → w.pending ≡ ms → next_of ms w.busy ≡ Some e → allowed w e ≡ None
-    by_list [] k i = cc
-    by_list (m ∷ ls) k i =
-        subst (λ x. allowed w x ≡ None) (same_Some (next_in m.unit m.phase w.busy) e i)
-        (oldest_allowed w m ls m.phase k refl (subst (Pairs IsApart) k s.apart).0)
+next_allowed w e s h = grind (arith, oldest_allowed, same_Some)
 
 pub next_is_allowed : (v w : Processor) (o : Option Event) (held : List Pending) → IsSound v → v ≡ w → held ≡ v.pending
     → o ≡ next_of held v.busy → IfSome o (λ e. allowed w e ≡ None)
-next_is_allowed v w None held s e h k = tt
-next_is_allowed v w (Some x) held s e h k =
-    subst (λ y. allowed y x ≡ None) e (next_allowed v x s (sym (k ∙ ap (λ l. next_of l v.busy) h)))
+next_is_allowed v w o held s e h k = grind (arith, next_allowed)
 
 -- if there is no next event, nothing is pending
 pub nothing_next : (ms : List Pending) (busy : List Bool) → next_of ms busy ≡ None → is_pending ms ≡ false
@@ -222,11 +198,7 @@ entering_store place word (Some a) = omega arith
 rest_cost : (b : Bounds) (place : ℕ) (h : Shape) (v : UnitValue)
     → left_cost (rest_of b place (reference_for h v)) ≤ reference_cost h
 unfolding left_cost relocated outstanding_of reference_for reference_cost
-rest_cost b place (Sets rs) v = omega arith
-rest_cost b place (Loads n) v = entering_load place n (absolute b _)
-rest_cost b place (Stores n) v = entering_store place _ (absolute b _)
-rest_cost b place Jumps v = omega arith
-rest_cost b place Links v = entering_store place _ (absolute b _)
+rest_cost b place h v = grind (arith, entering_load, entering_store)
 
 kept_work : (m : Pending) (o : Option Outstanding) (ls : List Pending)
     → work_left (kept m o ++ ls) ≡ left_cost o + work_left ls
@@ -271,10 +243,7 @@ less_store : (m : Pending) (ls : List Pending) (b : Bounds) (place : ℕ) (v : U
     → n ≡ phase_cost (shape_of m.instr) (Before (Finished v)) + work_left ls
     → work_left (kept m (rest_of b place (work_of (shape_of m.instr) v).reference) ++ ls) + 1 + 0 ≤ n
 unfolding phase_cost stage_cost work_of
-less_store m ls b place v n h =
-    let k = kept_work m (rest_of b place (reference_for (shape_of m.instr) v)) ls in
-    let r = rest_cost b place (shape_of m.instr) v in
-    omega (arith, h, k, r)
+less_store m ls b place v n h = grind (arith, kept_work, rest_cost)
 
 less_return : (ls : List Pending) (h : Shape) (n word k : ℕ)
     → k ≡ phase_cost h (After (Accepted n word)) + work_left ls → work_left ls + 1 + 0 ≤ k
@@ -303,11 +272,12 @@ entered_eases : (w : Processor) (m : Pending) (ls : List Pending) (place a : ℕ
 unfolding after saved_in phase_cost
 entered_eases w m ls place a access true k e p =
     let v : Processor = record w { busy = set w.busy (bank_of a) false } in
-    let i : saved_of w.pending w.busy ≡ 0 =
-    saved_first w m ls (After (Entered place a access)) e p ∙ ap (λ b. cond b 0 1) k in
-    let j : saved_of v.pending v.busy ≡ 1 = saved_first v m ls (After (Entered place a access)) e p
-    ∙ ap (λ b. cond b 0 1) (bank_freed w.busy (bank_of a)) in
-    omega (arith, i, j)
+    grind (
+      arith,
+      saved_first w m ls (After (Entered place a access)) e p,
+      saved_first v m ls (After (Entered place a access)) e p,
+      bank_freed w.busy (bank_of a),
+    )
 entered_eases w m ls place a access false k e p =
     eases w (after w (Accept place))
     (after_accept w (record { earlier = []; item = m; answer = record { address = a; access = access }; later = ls }) a
@@ -316,8 +286,7 @@ entered_eases w m ls place a access false k e p =
     (after_first w (entry_at place) (λ f. after_accept w f f.answer.address f.answer.access) ls m
     (record { address = a; access = access }) e (entry_first m place a access p)))
     (saved_first w m ls (After (Entered place a access)) e p ∙ ap (λ b. cond b 0 1) k)
-    (let j = less_accept w m ls place a access in let n = work_first w m ls (After (Entered place a access)) e p
-    in omega (arith, j, n))
+    (let j = less_accept w m ls place a access in grind (arith, work_first w m ls (After (Entered place a access)) e p))
 
 -- the changes that the events of a unit make to its instruction
 unfoldable unit_changes : Unit {0}
@@ -358,29 +327,11 @@ oldest_eases w m ls (After (Accepted n word)) e p =
 -- the next event reduces the remaining work
 pub next_eases : (w : Processor) (e : Event) → next_of w.pending w.busy ≡ Some e → Eases w (after w e)
 unfolding next_of
-next_eases w e h = by_list w.pending refl h
-  where
-    by_list : (ms : List Pending) → w.pending ≡ ms → next_of ms w.busy ≡ Some e → Eases w (after w e)
-    by_list [] k i = cc
-    by_list (m ∷ ls) k i = subst (λ x. Eases w (after w x)) (same_Some (next_in m.unit m.phase w.busy) e i)
-        (oldest_eases w m ls m.phase k refl)
+next_eases w e h = grind (arith, oldest_eases, same_Some)
 
 saved_less : (h : Shape) (p : Phase) (busy : List Bool) → saved_in p busy + 1 ≤ phase_cost h p
 unfolding saved_in phase_cost stage_cost outstanding_cost
-saved_less h (Before Unread) busy = omega arith
-saved_less h (Before (HasRead os)) busy = omega arith
-saved_less h (Before (Finished v)) busy = omega arith
-saved_less h (After (Entered place a (LoadInto n))) busy = by_bank (get_or busy (bank_of a) false)
-  where
-    by_bank : (b : Bool) → cond b 0 1 + 1 ≤ 3
-    by_bank true = omega arith
-    by_bank false = omega arith
-saved_less h (After (Entered place a (StoreWord word))) busy = by_bank (get_or busy (bank_of a) false)
-  where
-    by_bank : (b : Bool) → cond b 0 1 + 1 ≤ 2
-    by_bank true = omega arith
-    by_bank false = omega arith
-saved_less h (After (Accepted n word)) busy = omega arith
+saved_less h p busy = grind arith
 
 -- if no work remains, nothing is pending
 pub all_done : (ms : List Pending) (busy : List Bool) → work_left ms ≤ saved_of ms busy → is_pending ms ≡ false

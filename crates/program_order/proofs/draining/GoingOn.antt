@@ -1,44 +1,26 @@
 -- A drained machine goes on: only its own state can refuse the next issue or exchange.
-use Rattle.std.proofs.Common.{◌≡◌, ◌<◌, ◌≤◌, ℕ, Bool, true, false, cond, leb-true, List, [], ◌∷◌, Option, Some, None}
+use Rattle.std.proofs.Common.{◌≡◌, ◌<◌, ℕ, true, false, cond, List, [], ◌∷◌, Option, Some, None}
 use Rattle.std.proofs.Common.{refl, ap, ◌∙◌, arith}
 use Rattle.std.proofs.lemmas.Bool.{and_right}
 use Rattle.std.specs.Prelude.{◌&&◌, ◌||◌, IsSome, is_none, is_some, nat_le, not}
 use Rattle.std.specs.List.{list_any}
 use Rattle.instructions.specs.declared.instr.Reg.{Reg}
 use Rattle.instructions.specs.declared.instr.UnitKind.{UnitKind}
-use Rattle.instructions.specs.declared.instr.UnitKind.TheVariants.{Branch, Boolean, Shift, LongAdd as LongAddKind}
-use Rattle.instructions.specs.declared.instr.UnitKind.TheVariants.{Divide, Increment as IncrementKind}
-use Rattle.instructions.specs.declared.instr.Target.TheVariants.{A as TargetA, B as TargetB, X as TargetX}
-use Rattle.instructions.specs.declared.instr.Base.TheVariants.{A as BaseA, B as BaseB, X as BaseX}
-use Rattle.instructions.specs.declared.instr.Pair.TheVariants.{XPlusB, APlusB, AMinusB, BPlusB, BMinusB}
 use Rattle.instructions.specs.declared.instr.Instr.{Instr}
-use Rattle.instructions.specs.declared.instr.XTest.TheVariants.{Zero, NonZero, Positive, Negative, InRange, OutOfRange}
-use Rattle.instructions.specs.declared.instr.XTest.TheVariants.{Definite, Indefinite}
-use Rattle.instructions.specs.declared.instr.BTest.TheVariants.{Equal, NotEqual, GreaterOrEqual, Less}
-use Rattle.instructions.specs.declared.instr.Logic.TheVariants.{And, Or, Xor, AndNot, OrNot, XorNot}
-use Rattle.instructions.specs.declared.instr.Direction.TheVariants.{Left, Right}
-use Rattle.instructions.specs.declared.instr.Addition.TheVariants.{Sum, Difference}
-use Rattle.instructions.specs.declared.instr.Instr.TheVariants.{Stop, Pass, ReturnJump, Jump, BranchX, BranchB, Copy}
-use Rattle.instructions.specs.declared.instr.Instr.TheVariants.{Invert, Logical, ShiftBy, ShiftNominal, LongAdd, Mask}
-use Rattle.instructions.specs.declared.instr.Instr.TheVariants.{CountOnes, Increment}
-use Rattle.instructions.specs.declared.instr.Addends.TheVariants.{Address, Registers}
 use Rattle.instructions.specs.Each.{Each}
 use Rattle.instructions.specs.Shape.{shape_of, results}
 use Rattle.instructions.specs.Operands.{uses}
 use Rattle.instruction_table.specs.declared.decoding.Decoded.{Decoded}
-use Rattle.instruction_table.specs.declared.decoding.Decoded.TheVariants.{Legal, Refused, Straddle}
 use Rattle.scoreboard.specs.Conflicts as conflict
 use Rattle.scoreboard.specs.Units.{units_of}
 use Rattle.sequential.specs.declared.fetching.Fetched.{Fetched}
 use Rattle.sequential.specs.declared.fetching.Fetched.TheVariants.{Halting, Passing, Taking}
 use Rattle.sequential.specs.declared.position.ProgramPosition.{ProgramPosition}
 use Rattle.sequential.specs.Log.{issued}
-use Rattle.sequential.specs.State.{Bounds, bounds_of, absolute}
-use Rattle.sequential.specs.Position.{after_parcel}
-use Rattle.sequential.specs.Step.{fetch, fetched_by, fetched_from, at_instruction, classify, word_seen}
+use Rattle.sequential.specs.State.{Bounds}
+use Rattle.sequential.specs.Step.{fetch, fetched_by, fetched_from, classify, word_seen}
 use Rattle.instruction_table.specs.Decoding.{reading_at}
 use Rattle.program_order.specs.declared.event.Event.TheVariants.{Issue, Exchange as MakeExchange}
-use Rattle.in_flight.specs.declared.pending.Pending.{Pending}
 use Rattle.in_flight.specs.Pending.{awaited}
 use Rattle.in_flight.specs.Tests.{Test, refusal_of, reservation_tests, unit_for}
 use Rattle.program_order.specs.Processor.{Processor}
@@ -62,68 +44,11 @@ HasUnit (Taking i place) = IsSome (uses i).unit
 
 met_unit : (position after : ProgramPosition) (i : Instr) → HasUnit (classify position after i)
 unfolding classify
-met_unit position after Stop = tt
-met_unit position after (ReturnJump K) = refl
-met_unit position after (Jump i K) = refl
-met_unit position after (BranchX Zero j K) = refl
-met_unit position after (BranchX NonZero j K) = refl
-met_unit position after (BranchX Positive j K) = refl
-met_unit position after (BranchX Negative j K) = refl
-met_unit position after (BranchX InRange j K) = refl
-met_unit position after (BranchX OutOfRange j K) = refl
-met_unit position after (BranchX Definite j K) = refl
-met_unit position after (BranchX Indefinite j K) = refl
-met_unit position after (BranchB Equal i j K) = refl
-met_unit position after (BranchB NotEqual i j K) = refl
-met_unit position after (BranchB GreaterOrEqual i j K) = refl
-met_unit position after (BranchB Less i j K) = refl
-met_unit position after (Copy i j) = refl
-met_unit position after (Logical And i j k) = refl
-met_unit position after (Logical Or i j k) = refl
-met_unit position after (Logical Xor i j k) = refl
-met_unit position after (Invert i k) = refl
-met_unit position after (Logical AndNot i j k) = refl
-met_unit position after (Logical OrNot i j k) = refl
-met_unit position after (Logical XorNot i j k) = refl
-met_unit position after (ShiftBy Left i jk) = refl
-met_unit position after (ShiftBy Right i jk) = refl
-met_unit position after (ShiftNominal Left i j k) = refl
-met_unit position after (ShiftNominal Right i j k) = refl
-met_unit position after (LongAdd Sum i j k) = refl
-met_unit position after (LongAdd Difference i j k) = refl
-met_unit position after (Mask i jk) = refl
-met_unit position after Pass = tt
-met_unit position after (CountOnes i k) = refl
-met_unit position after (Increment TargetA i (Address BaseA j K)) = refl
-met_unit position after (Increment TargetA i (Address BaseB j K)) = refl
-met_unit position after (Increment TargetA i (Address BaseX j K)) = refl
-met_unit position after (Increment TargetA i (Registers XPlusB j k)) = refl
-met_unit position after (Increment TargetA i (Registers APlusB j k)) = refl
-met_unit position after (Increment TargetA i (Registers AMinusB j k)) = refl
-met_unit position after (Increment TargetA i (Registers BPlusB j k)) = refl
-met_unit position after (Increment TargetA i (Registers BMinusB j k)) = refl
-met_unit position after (Increment TargetB i (Address BaseA j K)) = refl
-met_unit position after (Increment TargetB i (Address BaseB j K)) = refl
-met_unit position after (Increment TargetB i (Address BaseX j K)) = refl
-met_unit position after (Increment TargetB i (Registers XPlusB j k)) = refl
-met_unit position after (Increment TargetB i (Registers APlusB j k)) = refl
-met_unit position after (Increment TargetB i (Registers AMinusB j k)) = refl
-met_unit position after (Increment TargetB i (Registers BPlusB j k)) = refl
-met_unit position after (Increment TargetB i (Registers BMinusB j k)) = refl
-met_unit position after (Increment TargetX i (Address BaseA j K)) = refl
-met_unit position after (Increment TargetX i (Address BaseB j K)) = refl
-met_unit position after (Increment TargetX i (Address BaseX j K)) = refl
-met_unit position after (Increment TargetX i (Registers XPlusB j k)) = refl
-met_unit position after (Increment TargetX i (Registers APlusB j k)) = refl
-met_unit position after (Increment TargetX i (Registers AMinusB j k)) = refl
-met_unit position after (Increment TargetX i (Registers BPlusB j k)) = refl
-met_unit position after (Increment TargetX i (Registers BMinusB j k)) = refl
+met_unit position after i = grind arith
 
 read_unit : (p parcel word : ℕ) (d : Decoded) → HasUnit (fetched_by p parcel word d)
 unfolding fetched_by
-read_unit p parcel word (Legal i next) = met_unit (at_instruction p parcel word) (after_parcel p word next) i
-read_unit p parcel word (Refused op) = tt
-read_unit p parcel word Straddle = tt
+read_unit p parcel word d = grind (arith, met_unit)
 
 from_unit : (p parcel : ℕ) (o : Option ℕ) → HasUnit (fetched_from p parcel o)
 unfolding fetched_from
@@ -138,12 +63,7 @@ fetched_unit b memory position = from_unit position.p position.parcel (word_seen
 
 kind_free : (kind : UnitKind) → is_none (unit_for [] (Some kind)) ≡ false
 unfolding conflict.unit_for conflict.free_unit conflict.first_free conflict.is_held units_of
-kind_free Branch = refl
-kind_free Boolean = refl
-kind_free Shift = refl
-kind_free LongAddKind = refl
-kind_free Divide = refl
-kind_free IncrementKind = refl
+kind_free kind = grind arith
 
 unit_free : (o : Option UnitKind) → IsSome o → is_none (unit_for [] o) ≡ false
 unit_free None h = cc
@@ -167,50 +87,31 @@ nothing_delays (Some a) = refl
 
 fetch_goes : (b : Bounds) (position : ProgramPosition) → fetch_waits b position [] ≡ false
 unfolding fetch_waits
-fetch_goes b position =
-    ap (λ x. is_none position.held && x) (nothing_delays (absolute b position.p))
-    ∙ and_right (is_none position.held) false refl
+fetch_goes b position = simp (nothing_delays, and_right)
 
 held_or_unasked : (r h : Option ℕ) → (is_none r || is_some h) ≡ true → (is_some r && is_none h) ≡ false
-held_or_unasked None h e = refl
-held_or_unasked (Some n) (Some word) e = refl
-held_or_unasked (Some n) None e = cc
+held_or_unasked r h e = grind arith
 
 some_of : {K : Type 0} (o : Option K) → o ≡ None → is_some o ≡ false
 some_of o e = ap is_some e
 
 budget_left : (budget count : ℕ) → count < budget → nat_le budget count ≡ false
-budget_left budget count h = by_test (nat_le budget count) refl
-  where
-    by_test : (b : Bool) → nat_le budget count ≡ b → nat_le budget count ≡ false
-    by_test false e = e
-    by_test true e = let k : budget ≤ count = leb-true budget count e in absurd (omega (arith, h, k))
+budget_left budget count h = grind arith
 
 pub issue_accepted : (w : Processor) → is_pending w.pending ≡ false → w.state.halt ≡ None → w.state.fault ≡ false
     → issued w.log < w.budget → (is_none w.request || is_some w.state.position.held) ≡ true → allowed w Issue ≡ None
 unfolding allowed tests_of issue_tests
 issue_accepted w p h f b r =
-    ap (λ (ms : List Pending). refusal_of (issue_tests w.state ms w.request w.budget (issued w.log)))
-    (not_pending w.pending p)
-    ∙ none_fails (issue_tests w.state [] w.request w.budget (issued w.log)) (
-      some_of w.state.halt h,
-      (
-        f,
-        (
-          budget_left w.budget (issued w.log) b,
-          (
-            refl,
-            (
-              held_or_unasked w.request w.state.position.held r,
-              (
-                fetch_goes (bounds_of w.state) w.state.position,
-                reservation_passes (fetch (bounds_of w.state) w.state.memory w.state.position)
-                    (fetched_unit (bounds_of w.state) w.state.memory w.state.position),
-              ),
-            ),
-          ),
-        ),
-      ),
+    grind (
+      arith,
+      not_pending,
+      none_fails,
+      some_of,
+      budget_left,
+      held_or_unasked,
+      fetch_goes,
+      reservation_passes,
+      fetched_unit,
     )
 
 pub exchange_accepted : (w : Processor) (at : ℕ) → is_pending w.pending ≡ false → w.request ≡ Some at

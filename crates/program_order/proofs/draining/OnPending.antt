@@ -1,6 +1,6 @@
 -- `drain` makes only events that serve a pending instruction; issues and exchanges aren't among them.
-use Rattle.std.proofs.Common.{◌≡◌, ℕ, Bool, true, false, cond, List, [], ◌∷◌, Option, Some, None, refl, sym, ap, ◌∙◌}
-use Rattle.std.proofs.Common.{subst, get_or}
+use Rattle.std.proofs.Common.{◌≡◌, ℕ, Bool, true, false, List, ◌∷◌, Option, Some, None, refl, sym, ap, ◌∙◌}
+use Rattle.std.proofs.Common.{arith}
 use Rattle.std.specs.Prelude.{◌||◌, IfSome, is_some}
 use Rattle.std.specs.List.{list_any}
 use Rattle.std.proofs.lemmas.Bool.{eq-eqb}
@@ -12,11 +12,10 @@ use Rattle.in_flight.specs.declared.pending.Pending.{Pending}
 use Rattle.in_flight.specs.declared.pending.Phase.{Phase}
 use Rattle.in_flight.specs.declared.pending.Phase.TheVariants.{Before, After}
 use Rattle.in_flight.specs.declared.pending.Stage.{Stage}
-use Rattle.in_flight.specs.declared.pending.Stage.TheVariants.{Unread, Read as HasRead, Finished}
 use Rattle.in_flight.specs.Lookup.{in_place, is_pending}
 use Rattle.program_order.specs.declared.event.Event.{Event}
-use Rattle.program_order.specs.declared.event.Event.TheVariants.{Issue, Read, Finish, Store as StoreResult, Accept}
-use Rattle.program_order.specs.declared.event.Event.TheVariants.{Return, BankFree, Ask, Exchange, PpRead, PpWrite}
+use Rattle.program_order.specs.declared.event.Event.TheVariants.{Issue}
+use Rattle.program_order.specs.declared.event.Event.TheVariants.{Ask, Exchange, PpRead, PpWrite}
 use Rattle.program_order.specs.Drain.{holds_unit, in_channel, next_in, next_of, waits_for, waits_for_in, works_on}
 use Rattle.program_order.proofs.draining.Draining.{arrival_first, entry_first, stage_first}
 
@@ -31,17 +30,7 @@ is_work _ = true
 
 pub on_pending : (ms : List Pending) (e : Event) → works_on ms e ≡ true → is_work e ≡ true
 unfolding works_on is_work
-on_pending ms Issue h = cc
-on_pending ms (Read u) h = refl
-on_pending ms (Finish u) h = refl
-on_pending ms (StoreResult u) h = refl
-on_pending ms (Accept p) h = refl
-on_pending ms (Return c) h = refl
-on_pending ms (BankFree k) h = refl
-on_pending ms (Ask n) h = cc
-on_pending ms Exchange h = cc
-on_pending ms (PpRead a) h = cc
-on_pending ms (PpWrite a v) h = cc
+on_pending ms e h = grind arith
 
 -- if the first instruction meets the test, some instruction does
 first_any : (f : Pending → Bool) (m : Pending) (ms : List Pending) → f m ≡ true → list_any f (m ∷ ms) ≡ true
@@ -69,24 +58,13 @@ channel_first m n word p = ap is_some (arrival_first m n word p)
 oldest_works : (m : Pending) (ms : List Pending) (p : Phase) (busy : List Bool) → m.phase ≡ p
     → works_on (m ∷ ms) (next_in m.unit p busy) ≡ true
 unfolding works_on next_in
-oldest_works m ms (Before Unread) busy e = unit_first m ms Unread e
-oldest_works m ms (Before (HasRead os)) busy e = unit_first m ms (HasRead os) e
-oldest_works m ms (Before (Finished v)) busy e = unit_first m ms (Finished v) e
-oldest_works m ms (After (Entered place a access)) busy e = by_bank (get_or busy (bank_of a) false)
-  where
-    by_bank : (b : Bool) → works_on (m ∷ ms) (cond b (BankFree (bank_of a)) (Accept place)) ≡ true
-    by_bank true = first_any (waits_for (bank_of a)) m ms (bank_first m place a access e)
-    by_bank false = first_any (in_place place) m ms (place_first m place a access e)
-oldest_works m ms (After (Accepted n word)) busy e = first_any (in_channel n) m ms (channel_first m n word e)
+oldest_works m ms p busy e = grind (arith, unit_first, first_any, bank_first, place_first, channel_first)
 
 -- the next event serves a pending instruction
 pub next_works_on : (ms : List Pending) (busy : List Bool) (e : Event) → next_of ms busy ≡ Some e
     → works_on ms e ≡ true
 unfolding next_of
-next_works_on [] busy e h = cc
-next_works_on (m ∷ ms) busy e h =
-    subst (λ x. works_on (m ∷ ms) x ≡ true) (same_Some (next_in m.unit m.phase busy) e h)
-    (oldest_works m ms m.phase busy refl)
+next_works_on ms busy e h = grind (arith, oldest_works, same_Some)
 
 pub next_on_pending : (ms : List Pending) (busy : List Bool) (o : Option Event) → o ≡ next_of ms busy
     → IfSome o (λ e. works_on ms e ≡ true)
@@ -97,8 +75,4 @@ next_on_pending ms busy (Some e) h = next_works_on ms busy e (sym h)
 pub next_if_pending : (ms : List Pending) (busy : List Bool) (o : Option Event) → o ≡ next_of ms busy
     → is_some o ≡ is_pending ms
 unfolding next_of is_pending
-next_if_pending ms busy o h = ap is_some h ∙ by_list ms
-  where
-    by_list : (ms : List Pending) → is_some (next_of ms busy) ≡ is_pending ms
-    by_list [] = refl
-    by_list (m ∷ ms) = refl
+next_if_pending ms busy o h = grind arith

@@ -5,7 +5,7 @@ use Rattle.in_flight.proofs.asking.PendingReservations.{comes, reads}
 use Rattle.program_order.proofs.Opened.{results_to_come}
 use Rattle.sequential.specs.Position.{after_jump}
 use Rattle.in_flight.proofs.asking.Phases.{may_store}
-use Rattle.std.proofs.Common.{◌≡◌, ℕ, false, List, [], ◌∷◌, ◌++◌, Option, Some, None, refl, ap, ◌∙◌, get_or}
+use Rattle.std.proofs.Common.{◌≡◌, ℕ, false, List, [], ◌∷◌, ◌++◌, Option, Some, None, refl, ap, ◌∙◌, get_or, arith}
 use Rattle.std.proofs.lemmas.Bool.{or_parts}
 use Rattle.std.specs.List.{list_any}
 use Rattle.program_order.proofs.effects.OnePending.{finish_effects-write, finish_effects-move, finish_effects-halt}
@@ -23,7 +23,7 @@ use Rattle.program_order.specs.Complete.{complete, finish_effects}
 use Rattle.in_flight.specs.declared.pending.Pending.{Pending}
 use Rattle.registers.specs.Registers.{get}
 use Rattle.sequential.specs.State.{Bounds, bounds_of, jump_to, halt_by, or_fault, move_to, store_word, write, write_all}
-use Rattle.sequential.specs.Work.{write_and_jump, fault_of, jump_for, reference_for, each_set_to, work_of}
+use Rattle.sequential.specs.Work.{write_and_jump, fault_of, reference_for, each_set_to, work_of}
 use Rattle.sequential.specs.declared.position.ProgramPosition.{ProgramPosition}
 use Rattle.sequential.specs.declared.state.State.{State}
 use Rattle.unit_ops.specs.declared.UnitValue.{UnitValue}
@@ -121,9 +121,7 @@ complete-write_all : (b : Bounds) (s : State) (ms : List Pending) (n : ℕ) (rs 
     → complete b (write_all s (each_set_to n rs)) ms ≡ write_all (complete b s ms) (each_set_to n rs)
 unfolding write_all each_set_to
 complete-write_all b s ms n [] h = refl
-complete-write_all b s ms n (r ∷ rs) h =
-    complete-write_all b (write s r n) ms n rs h.1
-    ∙ ap (λ x. write_all x (each_set_to n rs)) (complete-write b s ms r n h.0)
+complete-write_all b s ms n (r ∷ rs) h = grind (arith, complete-write_all b (write s r n) ms n rs h.1, complete-write)
 
 complete-jump_to : (b : Bounds) (s : State) (ms : List Pending) (j : Option ℕ) → Each IsNoBranch ms
     → complete b (jump_to s j) ms ≡ jump_to (complete b s ms) j
@@ -139,5 +137,4 @@ complete-now b d s ms h x nb free =
     complete-change b (λ y. or_fault y (fault_of d (reference_for h x))) ms
     (each_all _ (λ m y. finish_effects-or_fault b y m _) ms) _
     ∙ ap (λ y. or_fault y (fault_of d (reference_for h x)))
-    (complete-jump_to b _ ms (jump_for h x) nb
-    ∙ ap (λ y. jump_to y (jump_for h x)) (complete-write_all b s ms _ (sets_of h) free))
+    (grind (arith, complete-jump_to, complete-write_all))

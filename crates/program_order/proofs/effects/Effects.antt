@@ -2,15 +2,15 @@
 use Rattle.in_flight.specs.Pending.{returning}
 use Rattle.sequential.specs.Position.{after_jump}
 use Rattle.scoreboard.specs.Reservations.{returning_to}
-use Rattle.std.proofs.Common.{◌≡◌, ℕ, Bool, true, false, List, [], ◌∷◌, Option, Some, None, refl, sym, ap, ◌∙◌, get_or}
-use Rattle.std.proofs.Common.{eqb}
+use Rattle.std.proofs.Common.{◌≡◌, ℕ, Bool, false, List, [], ◌∷◌, Option, Some, None, refl, sym, ap, ◌∙◌, get_or}
+use Rattle.std.proofs.Common.{eqb, arith}
 use Rattle.std.specs.Prelude.{◌||◌}
 use Rattle.std.proofs.lemmas.Bool.{eqb-false, or_parts}
 use Rattle.std.proofs.lemmas.List.{get_or-set_other, set_comm, length-set}
 use Rattle.std.specs.List.{list_any}
 use Rattle.registers.proofs.RegisterLaws.{put_comm, get-put_other}
 use Rattle.instructions.specs.RegisterLists.{is_in}
-use Rattle.instructions.specs.Shape.{Jumps, Links, Loads, Sets, Shape, Stores, has_reference, has_store}
+use Rattle.instructions.specs.Shape.{Shape, has_reference, has_store}
 use Rattle.instructions.specs.Shape.{is_branch_shape, loads_of, sets_of}
 use Rattle.instructions.specs.Operands.{reg_eq}
 use Rattle.instructions.specs.declared.instr.Reg.{Reg}
@@ -28,7 +28,7 @@ use Rattle.relocation.specs.declared.area.Access.TheVariants.{Load as LoadInto, 
 use Rattle.sequential.specs.State.{Bounds, absolute, access_at, bounds_of, jump_to, halt_by, or_fault, move_to}
 use Rattle.sequential.specs.State.{store_word, write}
 use Rattle.sequential.specs.State.{write_all}
-use Rattle.sequential.specs.Work.{Work, write_and_jump, fault_of, jump_for, reference_for, each_set_to, work_of}
+use Rattle.sequential.specs.Work.{Work, write_and_jump, jump_for, reference_for, each_set_to, work_of}
 use Rattle.sequential.specs.Work.{do_work, refer}
 use Rattle.sequential.specs.Work.{refer_at}
 use Rattle.sequential.specs.declared.position.ProgramPosition.{ProgramPosition}
@@ -57,8 +57,7 @@ unfolding write_all each_set_to is_in
 write_all-write s n [] r v h = refl
 write_all-write s n (t ∷ rs) r v h =
     let p = or_parts (reg_eq r t) (list_any (reg_eq r) rs) h in
-    ap (λ x. write_all x (each_set_to n rs)) (sym (write_comm s t r n v p.0))
-    ∙ write_all-write (write s t n) n rs r v p.1
+    grind (arith, write_all-write (write s t n) n rs r v p.1, write_comm)
 
 jump_to-write : (s : State) (j : Option ℕ) (r : Reg) (v : ℕ) → jump_to (write s r v) j ≡ write (jump_to s j) r v
 unfolding jump_to write after_jump
@@ -72,10 +71,7 @@ or_fault-write s f r v = refl
 pub do_outstanding-write : (s : State) (l : Outstanding) (r : Reg) (v : ℕ) → is_in (target_of l) r ≡ false
     → do_outstanding (write s r v) l ≡ write (do_outstanding s l) r v
 unfolding do_outstanding access_at store_word write target_of is_in returning_to returning
-do_outstanding-write s (Entered slot a (LoadInto n)) r v h =
-    sym (write_comm s (X n) r (get_or s.memory a 0) v (or_parts (reg_eq r (X n)) false h).0)
-do_outstanding-write s (Entered slot a (StoreWord w)) r v h = refl
-do_outstanding-write s (Accepted n w) r v h = sym (write_comm s (X n) r w v (or_parts (reg_eq r (X n)) false h).0)
+do_outstanding-write s l r v h = grind (arith, write_comm, or_parts)
 
 pub do_option-write : (s : State) (o : Option Outstanding) (r : Reg) (v : ℕ) → is_in (targets_left o) r ≡ false
     → do_option (write s r v) o ≡ write (do_option s o) r v
@@ -96,29 +92,19 @@ entering_nothing slot w (Some a) = refl
 pub rest_targets : (b : Bounds) (slot : ℕ) (h : Shape) (v : UnitValue)
     → targets_left (rest_of b slot (reference_for h v)) ≡ loads_of h
 unfolding relocated outstanding_of reference_for loads_of targets_left
-rest_targets b slot (Sets rs) v = refl
-rest_targets b slot (Loads n) v = entering_targets slot n (absolute b _)
-rest_targets b slot (Stores n) v = entering_nothing slot _ (absolute b _)
-rest_targets b slot Jumps v = refl
-rest_targets b slot Links v = entering_nothing slot _ (absolute b _)
+rest_targets b slot h v = grind (arith, entering_targets, entering_nothing)
 
 pub write_and_jump-write : (b : Bounds) (s : State) (h : Shape) (x : UnitValue) (r : Reg) (v : ℕ) → is_in (sets_of h) r
     ≡ false
     → write_and_jump b (write s r v) (work_of h x) ≡ write (write_and_jump b s (work_of h x)) r v
 unfolding write_and_jump work_of
-write_and_jump-write b s h x r v p =
-    ap (λ y. or_fault (jump_to y (jump_for h x)) (fault_of b (reference_for h x)))
-    (write_all-write s _ (sets_of h) r v p)
-    ∙ ap (λ y. or_fault y (fault_of b (reference_for h x))) (jump_to-write _ (jump_for h x) r v)
-    ∙ or_fault-write _ _ r v
+write_and_jump-write b s h x r v p = simp (write_all-write, jump_to-write, or_fault-write)
 
 pub do_parts-write : (b : Bounds) (s : State) (h : Shape) (x : UnitValue) (r : Reg) (v : ℕ)
     → is_in (sets_of h) r ≡ false → is_in (loads_of h) r ≡ false
     → do_parts b (write s r v) (work_of h x) ≡ write (do_parts b s (work_of h x)) r v
 unfolding do_parts work_of
-do_parts-write b s h x r v p q =
-    ap (λ y. do_option y (rest_of b 0 (reference_for h x))) (write_and_jump-write b s h x r v p)
-    ∙ do_option-write _ (rest_of b 0 (reference_for h x)) r v (ap (λ rs. is_in rs r) (rest_targets b 0 h x) ∙ q)
+do_parts-write b s h x r v p q = grind (arith, write_and_jump-write, do_option-write, rest_targets)
 
 -- ---- a move of the place ----
 
@@ -135,9 +121,7 @@ or_fault-move s f p = refl
 pub do_outstanding-move : (s : State) (l : Outstanding) (p : ProgramPosition)
     → do_outstanding (move_to s p) l ≡ move_to (do_outstanding s l) p
 unfolding do_outstanding access_at store_word write move_to
-do_outstanding-move s (Entered slot a (LoadInto n)) p = refl
-do_outstanding-move s (Entered slot a (StoreWord w)) p = refl
-do_outstanding-move s (Accepted n w) p = refl
+do_outstanding-move s l p = grind arith
 
 do_option-move : (s : State) (o : Option Outstanding) (p : ProgramPosition)
     → do_option (move_to s p) o ≡ move_to (do_option s o) p
@@ -158,19 +142,13 @@ pub write_and_jump-move : (b : Bounds) (s : State) (h : Shape) (x : UnitValue) (
     → is_branch_shape h ≡ false
     → write_and_jump b (move_to s p) (work_of h x) ≡ move_to (write_and_jump b s (work_of h x)) p
 unfolding write_and_jump work_of
-write_and_jump-move b s h x p e =
-    ap (λ y. or_fault y (fault_of b (reference_for h x)))
-    (jump_to-none _ (jump_for h x) (no_jump h x e) ∙ write_all-move s _ p
-    ∙ sym (ap (λ y. move_to y p) (jump_to-none _ (jump_for h x) (no_jump h x e))))
-    ∙ or_fault-move _ _ p
+write_and_jump-move b s h x p e = simp (jump_to-none, no_jump, write_all-move, or_fault-move)
 
 pub do_parts-move : (b : Bounds) (s : State) (h : Shape) (x : UnitValue) (p : ProgramPosition) → is_branch_shape h
     ≡ false
     → do_parts b (move_to s p) (work_of h x) ≡ move_to (do_parts b s (work_of h x)) p
 unfolding do_parts work_of
-do_parts-move b s h x p e =
-    ap (λ y. do_option y (rest_of b 0 (reference_for h x))) (write_and_jump-move b s h x p e)
-    ∙ do_option-move _ _ p
+do_parts-move b s h x p e = simp (write_and_jump-move, do_option-move)
 
 -- ---- a halt ----
 
@@ -191,9 +169,7 @@ or_fault-halt s f k = refl
 pub do_outstanding-halt : (s : State) (l : Outstanding) (k : Halt)
     → do_outstanding (halt_by s k) l ≡ halt_by (do_outstanding s l) k
 unfolding do_outstanding access_at store_word write halt_by
-do_outstanding-halt s (Entered slot a (LoadInto n)) k = refl
-do_outstanding-halt s (Entered slot a (StoreWord w)) k = refl
-do_outstanding-halt s (Accepted n w) k = refl
+do_outstanding-halt s l k = grind arith
 
 do_option-halt : (s : State) (o : Option Outstanding) (k : Halt) → do_option (halt_by s k) o ≡ halt_by (do_option s o) k
 unfolding do_option
@@ -203,12 +179,7 @@ do_option-halt s (Some l) k = do_outstanding-halt s l k
 pub do_parts-halt : (b : Bounds) (s : State) (w : Work) (k : Halt)
     → do_parts b (halt_by s k) w ≡ halt_by (do_parts b s w) k
 unfolding do_parts write_and_jump
-do_parts-halt b s w k =
-    ap (λ y. do_option (or_fault (jump_to y w.jump) (fault_of b w.reference)) (rest_of b 0 w.reference))
-    (write_all-halt s w.sets k)
-    ∙ ap (λ y. do_option (or_fault y (fault_of b w.reference)) (rest_of b 0 w.reference)) (jump_to-halt _ w.jump k)
-    ∙ ap (λ y. do_option y (rest_of b 0 w.reference)) (or_fault-halt _ _ k)
-    ∙ do_option-halt _ _ k
+do_parts-halt b s w k = simp (write_all-halt, jump_to-halt, or_fault-halt, do_option-halt)
 
 -- ---- a fault ----
 
@@ -224,11 +195,7 @@ jump_to-or_fault s None f = refl
 jump_to-or_fault s (Some to) f = refl
 
 or_swap : (x y z : Bool) → ((x || y) || z) ≡ ((x || z) || y)
-or_swap true y z = refl
-or_swap false true true = refl
-or_swap false true false = refl
-or_swap false false true = refl
-or_swap false false false = refl
+or_swap x y z = grind arith
 
 or_fault-or_fault : (s : State) (f g : Bool) → or_fault (or_fault s f) g ≡ or_fault (or_fault s g) f
 unfolding or_fault
@@ -237,9 +204,7 @@ or_fault-or_fault s f g = ap (λ x. record s { fault = x }) (or_swap s.fault f g
 pub do_outstanding-or_fault : (s : State) (l : Outstanding) (f : Bool)
     → do_outstanding (or_fault s f) l ≡ or_fault (do_outstanding s l) f
 unfolding do_outstanding access_at store_word write or_fault
-do_outstanding-or_fault s (Entered slot a (LoadInto n)) f = refl
-do_outstanding-or_fault s (Entered slot a (StoreWord w)) f = refl
-do_outstanding-or_fault s (Accepted n w) f = refl
+do_outstanding-or_fault s l f = grind arith
 
 do_option-or_fault : (s : State) (o : Option Outstanding) (f : Bool) → do_option (or_fault s f) o
     ≡ or_fault (do_option s o) f
@@ -250,12 +215,7 @@ do_option-or_fault s (Some l) f = do_outstanding-or_fault s l f
 pub do_parts-or_fault : (b : Bounds) (s : State) (w : Work) (f : Bool) → do_parts b (or_fault s f) w
     ≡ or_fault (do_parts b s w) f
 unfolding do_parts write_and_jump
-do_parts-or_fault b s w f =
-    ap (λ y. do_option (or_fault (jump_to y w.jump) (fault_of b w.reference)) (rest_of b 0 w.reference))
-    (write_all-or_fault s w.sets f)
-    ∙ ap (λ y. do_option (or_fault y (fault_of b w.reference)) (rest_of b 0 w.reference)) (jump_to-or_fault _ w.jump f)
-    ∙ ap (λ y. do_option y (rest_of b 0 w.reference)) (or_fault-or_fault _ f _)
-    ∙ do_option-or_fault _ _ f
+do_parts-or_fault b s w f = simp (write_all-or_fault, jump_to-or_fault, or_fault-or_fault, do_option-or_fault)
 
 -- ---- a memory write ----
 
@@ -282,27 +242,16 @@ later_touches a (Accepted n w) = false
 pub do_outstanding-store_word : (s : State) (l : Outstanding) (a w : ℕ) → later_touches a l ≡ false
     → do_outstanding (store_word s a w) l ≡ store_word (do_outstanding s l) a w
 unfolding do_outstanding access_at store_word write later_touches
-do_outstanding-store_word s (Entered slot k (LoadInto n)) a w h =
-    ap (λ v. write (store_word s a w) (X n) v) (get_or-set_other s.memory a k w 0 (eqb-false k a h))
-do_outstanding-store_word s (Entered slot k (StoreWord v)) a w h =
-    ap (λ m. record s { memory = m }) (set_comm s.memory a k w v (λ e. eqb-false k a h (sym e)))
-do_outstanding-store_word s (Accepted n v) a w h = refl
+do_outstanding-store_word s l a w h = grind (arith, get_or-set_other, eqb-false, set_comm)
 
 pub no_reference : (h : Shape) (x : UnitValue) → has_reference h ≡ false → reference_for h x ≡ None
 unfolding reference_for has_reference
-no_reference (Sets rs) x e = refl
-no_reference (Loads n) x e = cc
-no_reference (Stores n) x e = cc
-no_reference Jumps x e = refl
-no_reference Links x e = cc
+no_reference h x e = grind arith
 
 pub write_and_jump-store_word : (b : Bounds) (s : State) (h : Shape) (x : UnitValue) (a w : ℕ)
     → write_and_jump b (store_word s a w) (work_of h x) ≡ store_word (write_and_jump b s (work_of h x)) a w
 unfolding write_and_jump work_of
-write_and_jump-store_word b s h x a w =
-    ap (λ y. or_fault (jump_to y (jump_for h x)) (fault_of b (reference_for h x))) (write_all-store_word s _ a w)
-    ∙ ap (λ y. or_fault y (fault_of b (reference_for h x))) (jump_to-store_word _ (jump_for h x) a w)
-    ∙ or_fault-store_word _ _ a w
+write_and_jump-store_word b s h x a w = simp (write_all-store_word, jump_to-store_word, or_fault-store_word)
 
 no_rest : (b : Bounds) (s : State) (r : Option ProgramReference) → r ≡ None → do_option s (rest_of b 0 r) ≡ s
 unfolding do_option relocated outstanding_of
@@ -316,9 +265,7 @@ do_parts-now b s h x e = no_rest b _ (reference_for h x) (no_reference h x e)
 
 pub do_parts-store_word : (b : Bounds) (s : State) (h : Shape) (x : UnitValue) (a w : ℕ) → has_reference h ≡ false
     → do_parts b (store_word s a w) (work_of h x) ≡ store_word (do_parts b s (work_of h x)) a w
-do_parts-store_word b s h x a w e =
-    do_parts-now b (store_word s a w) h x e ∙ write_and_jump-store_word b s h x a w
-    ∙ ap (λ y. store_word y a w) (sym (do_parts-now b s h x e))
+do_parts-store_word b s h x a w e = simp (do_parts-now, write_and_jump-store_word)
 
 -- ---- what stays ----
 
@@ -354,10 +301,7 @@ jump_to-halted s (Some to) = refl
 pub do_outstanding-get : (s : State) (l : Outstanding) (r : Reg) → is_in (target_of l) r ≡ false
     → get (do_outstanding s l).registers r ≡ get s.registers r
 unfolding do_outstanding access_at store_word write target_of is_in returning_to returning
-do_outstanding-get s (Entered slot a (LoadInto n)) r h =
-    get-put_other s.registers (X n) r _ (or_parts (reg_eq r (X n)) false h).0
-do_outstanding-get s (Entered slot a (StoreWord w)) r h = refl
-do_outstanding-get s (Accepted n w) r h = get-put_other s.registers (X n) r _ (or_parts (reg_eq r (X n)) false h).0
+do_outstanding-get s l r h = grind (arith, get-put_other, or_parts)
 
 do_option-get : (s : State) (o : Option Outstanding) (r : Reg) → is_in (targets_left o) r ≡ false
     → get (do_option s o).registers r ≡ get s.registers r
@@ -368,10 +312,7 @@ do_option-get s (Some l) r h = do_outstanding-get s l r h
 pub do_parts-get : (b : Bounds) (s : State) (h : Shape) (x : UnitValue) (r : Reg) → is_in (sets_of h) r ≡ false
     → is_in (loads_of h) r ≡ false → get (do_parts b s (work_of h x)).registers r ≡ get s.registers r
 unfolding do_parts write_and_jump work_of or_fault
-do_parts-get b s h x r p q =
-    do_option-get _ (rest_of b 0 (reference_for h x)) r (ap (λ rs. is_in rs r) (rest_targets b 0 h x) ∙ q)
-    ∙ ap (λ g. get g r) (jump_to-registers _ (jump_for h x))
-    ∙ write_all-get s _ (sets_of h) r p
+do_parts-get b s h x r p q = grind (arith, do_option-get, rest_targets, jump_to-registers, write_all-get)
 
 -- whether the outstanding reference may store to the address
 unfoldable pub later_stores : ℕ → Outstanding → Bool
@@ -382,10 +323,7 @@ later_stores a (Accepted n w) = false
 pub do_outstanding-word : (s : State) (l : Outstanding) (a : ℕ) → later_stores a l ≡ false
     → get_or (do_outstanding s l).memory a 0 ≡ get_or s.memory a 0
 unfolding do_outstanding access_at store_word write later_stores
-do_outstanding-word s (Entered slot k (LoadInto n)) a h = refl
-do_outstanding-word s (Entered slot k (StoreWord w)) a h =
-    get_or-set_other s.memory k a w 0 (λ e. eqb-false k a h (sym e))
-do_outstanding-word s (Accepted n w) a h = refl
+do_outstanding-word s l a h = grind (arith, get_or-set_other, eqb-false)
 
 pub write_and_jump-memory : (b : Bounds) (s : State) (w : Work) → (write_and_jump b s w).memory ≡ s.memory
 unfolding write_and_jump or_fault
@@ -400,11 +338,7 @@ entering_stores_not s slot n a (Some k) = refl
 rest_stores_not : (b : Bounds) (s : State) (slot a : ℕ) (h : Shape) (x : UnitValue) → has_store h ≡ false
     → get_or (do_option s (rest_of b slot (reference_for h x))).memory a 0 ≡ get_or s.memory a 0
 unfolding relocated outstanding_of reference_for has_store do_option
-rest_stores_not b s slot a (Sets rs) x e = refl
-rest_stores_not b s slot a (Loads n) x e = entering_stores_not s slot n a _
-rest_stores_not b s slot a (Stores n) x e = cc
-rest_stores_not b s slot a Jumps x e = refl
-rest_stores_not b s slot a Links x e = cc
+rest_stores_not b s slot a h x e = grind (arith, entering_stores_not)
 
 pub do_parts-word : (b : Bounds) (s : State) (h : Shape) (x : UnitValue) (a : ℕ) → has_store h ≡ false
     → get_or (do_parts b s (work_of h x)).memory a 0 ≡ get_or s.memory a 0
@@ -413,9 +347,7 @@ do_parts-word b s h x a e = rest_stores_not b _ 0 a h x e ∙ ap (λ m. get_or m
 
 pub do_outstanding-halted : (s : State) (l : Outstanding) → (do_outstanding s l).halt ≡ s.halt
 unfolding do_outstanding access_at store_word write
-do_outstanding-halted s (Entered slot a (LoadInto n)) = refl
-do_outstanding-halted s (Entered slot a (StoreWord w)) = refl
-do_outstanding-halted s (Accepted n w) = refl
+do_outstanding-halted s l = grind arith
 
 do_option-halted : (s : State) (o : Option Outstanding) → (do_option s o).halt ≡ s.halt
 unfolding do_option
@@ -429,10 +361,7 @@ do_parts-halted b s w =
 
 pub do_outstanding-bounds : (s : State) (l : Outstanding) → bounds_of (do_outstanding s l) ≡ bounds_of s
 unfolding do_outstanding access_at store_word write bounds_of
-do_outstanding-bounds s (Entered slot a (LoadInto n)) = refl
-do_outstanding-bounds s (Entered slot a (StoreWord w)) =
-    ap (λ n. record { area = s.area; size = n }) (length-set s.memory a w)
-do_outstanding-bounds s (Accepted n w) = refl
+do_outstanding-bounds s l = grind (arith, length-set)
 
 do_option-bounds : (s : State) (o : Option Outstanding) → bounds_of (do_option s o) ≡ bounds_of s
 unfolding do_option
@@ -454,9 +383,7 @@ do_parts-bounds b s w = do_option-bounds _ (rest_of b 0 w.reference) ∙ write_a
 
 pub do_outstanding-position : (s : State) (l : Outstanding) → (do_outstanding s l).position ≡ s.position
 unfolding do_outstanding access_at store_word write
-do_outstanding-position s (Entered slot a (LoadInto n)) = refl
-do_outstanding-position s (Entered slot a (StoreWord w)) = refl
-do_outstanding-position s (Accepted n w) = refl
+do_outstanding-position s l = grind arith
 
 pub do_parts-position : (b : Bounds) (s : State) (h : Shape) (x : UnitValue) → is_branch_shape h ≡ false
     → (do_parts b s (work_of h x)).position ≡ s.position
@@ -467,10 +394,7 @@ do_parts-position b s h x e = ap (λ y. y.position) (do_parts-move b s h x s.pos
 
 refer_at-is : (s : State) (o : Option ℕ) (access : Access) → refer_at s o access ≡ do_option s (entering 0 o access)
 unfolding refer_at do_option entering do_outstanding
-refer_at-is s (Some a) (LoadInto n) = refl
-refer_at-is s (Some a) (StoreWord w) = refl
-refer_at-is s None (LoadInto n) = refl
-refer_at-is s None (StoreWord w) = refl
+refer_at-is s o access = grind arith
 
 refer-is : (b : Bounds) (s : State) (r : Option ProgramReference) → refer b s r ≡ do_option s (rest_of b 0 r)
 unfolding refer relocated outstanding_of do_option

@@ -7,7 +7,7 @@ use Rattle.scoreboard.proofs.in_slots.Registers.{reg_eq_same}
 use Rattle.std.specs.Prelude.{◌||◌}
 use Rattle.std.proofs.lemmas.Bool.{or_parts}
 use Rattle.std.proofs.Common.{◌≡◌, ℕ, Bool, true, false, cond, sym, subst, List, [], ◌∷◌, ◌++◌, Option, Some, None}
-use Rattle.std.proofs.Common.{refl, ap, ◌∙◌, get_or}
+use Rattle.std.proofs.Common.{refl, ap, ◌∙◌, get_or, arith}
 use Rattle.std.specs.List.{list_any}
 use Rattle.instructions.proofs.Lists.{any_left, any_right, each_left, each_right}
 use Rattle.registers.proofs.RegisterLaws.{get-put_other, same_reg_flip}
@@ -22,7 +22,7 @@ use Rattle.program_order.proofs.effects.Effects.{do_work-bounds, do_outstanding-
 use Rattle.instructions.specs.RegisterLists.{is_in}
 use Rattle.instructions.specs.Shape.{Shape, has_reference, has_store, is_branch_shape, loads_of, sets_of, results}
 use Rattle.instructions.specs.Shape.{shape_of}
-use Rattle.instructions.specs.Operands.{reg_eq, sources_of, uses, with_source}
+use Rattle.instructions.specs.Operands.{reg_eq, sources_of, with_source}
 use Rattle.instructions.specs.declared.instr.Instr.{Instr}
 use Rattle.instructions.specs.declared.instr.Reg.{Reg}
 use Rattle.instructions.specs.declared.instr.Reg.TheVariants.{B}
@@ -30,7 +30,6 @@ use Rattle.instructions.specs.declared.refusal.Halt.{Halt}
 use Rattle.in_flight.proofs.asking.Phases.{target_of, before_and, may_store, may_store_in, reads_in, to_come_in}
 use Rattle.instructions.specs.Each.{Each}
 use Rattle.program_order.specs.Complete.{finish_effects, run_phase, value_at}
-use Rattle.in_flight.specs.declared.pending.Outstanding.TheVariants.{Accepted, Entered}
 use Rattle.in_flight.specs.declared.pending.Pending.{Pending}
 use Rattle.in_flight.specs.declared.pending.Phase.{Phase}
 use Rattle.in_flight.specs.declared.pending.Phase.TheVariants.{After, Before}
@@ -38,9 +37,8 @@ use Rattle.in_flight.specs.declared.pending.Stage.{Stage}
 use Rattle.in_flight.specs.declared.pending.Stage.TheVariants.{Finished, Read as HasRead, Unread}
 use Rattle.registers.specs.Registers.{get, put}
 use Rattle.registers.specs.declared.file.RegisterFile.{RegisterFile}
-use Rattle.relocation.specs.declared.area.Access.TheVariants.{Load as LoadInto, Store as StoreWord}
 use Rattle.sequential.specs.State.{Bounds, bounds_of, halt_by, or_fault, move_to, store_word, write}
-use Rattle.sequential.specs.Work.{do_work, operand_at, operands, work_of}
+use Rattle.sequential.specs.Work.{operand_at, operands}
 use Rattle.sequential.specs.declared.position.ProgramPosition.{ProgramPosition}
 use Rattle.sequential.specs.declared.state.State.{State}
 use Rattle.unit_ops.specs.Values.{value_of}
@@ -81,11 +79,7 @@ operand-agree g k rs (Some r) h = by_test (reg_eq r (B 0)) refl (list_any (reg_e
 pub operands-agree : (i : Instr) (at : ℕ) (g k : RegisterFile) → Each (λ r. get g r ≡ get k r) (sources_of i)
     → operands i at g ≡ operands i at k
 unfolding operands
-operands-agree i at g k h =
-    let third = operand-agree g k (with_source (with_source [] (uses i).first) (uses i).second) (uses i).outgoing h in
-    let second = operand-agree g k (with_source [] (uses i).first) (uses i).second third.0 in
-    let first = operand-agree g k [] (uses i).first second.0 in
-    rw (first.1, second.1, third.1) refl
+operands-agree i at g k h = grind (arith, operand-agree g k)
 
 put_agrees : (g : RegisterFile) (r : Reg) (v : ℕ) (rs : List Reg) → is_in rs r ≡ false
     → Each (λ t. get (put g r v) t ≡ get g t) rs
@@ -117,10 +111,7 @@ phase-write : (b : Bounds) (s : State) (i : Instr) (at : ℕ) (p : Phase) (r : R
     → is_in (to_come_in (shape_of i) p) r ≡ false → is_in (reads_in (sources_of i) p) r ≡ false
     → run_phase b (write s r v) i at p ≡ write (run_phase b s i at p) r v
 unfolding run_phase to_come_in write board.to_come_in occupancy_of returning_to returning target_of
-phase-write b s i at (Before t) r v c d =
-    ap (λ x. do_work b (write s r v) (work_of (shape_of i) x)) (value_at-put i at t s.registers r v d)
-    ∙ do_work-write b s (shape_of i) _ r v (in_puts (shape_of i) r c) (in_loads (shape_of i) r c)
-phase-write b s i at (After l) r v c d = do_outstanding-write s l r v c
+phase-write b s i h p r v c d = grind (arith, value_at-put, do_work-write, in_puts, in_loads, do_outstanding-write)
 
 phase-move : (b : Bounds) (s : State) (i : Instr) (at : ℕ) (p : Phase) (k : ProgramPosition)
     → before_and (is_branch_shape (shape_of i)) p ≡ false
@@ -155,19 +146,12 @@ phase-store_word b s i at (After l) a w e = do_outstanding-store_word s l a w e
 phase-get : (b : Bounds) (s : State) (i : Instr) (at : ℕ) (p : Phase) (r : Reg)
     → is_in (to_come_in (shape_of i) p) r ≡ false → get (run_phase b s i at p).registers r ≡ get s.registers r
 unfolding run_phase to_come_in board.to_come_in occupancy_of returning_to returning target_of
-phase-get b s i at (Before t) r c =
-    do_work-get b s (shape_of i) _ r (in_puts (shape_of i) r c) (in_loads (shape_of i) r c)
-phase-get b s i at (After l) r c = do_outstanding-get s l r c
+phase-get b s i h p r c = grind (arith, do_work-get, in_puts, in_loads, do_outstanding-get)
 
 phase-word : (b : Bounds) (s : State) (i : Instr) (at : ℕ) (p : Phase) (a : ℕ)
     → may_store_in (has_store (shape_of i)) a p ≡ false → get_or (run_phase b s i at p).memory a 0 ≡ get_or s.memory a 0
 unfolding run_phase may_store_in later_stores
-phase-word b s i at (Before t) a e = do_work-word b s (shape_of i) _ a e
-phase-word b s i at (After (Entered slot k (LoadInto n))) a e =
-    do_outstanding-word s (Entered slot k (LoadInto n)) a refl
-phase-word b s i at (After (Entered slot k (StoreWord w))) a e =
-    do_outstanding-word s (Entered slot k (StoreWord w)) a e
-phase-word b s i at (After (Accepted n w)) a e = do_outstanding-word s (Accepted n w) a refl
+phase-word b s i h p a e = grind (arith, do_work-word, do_outstanding-word)
 
 phase-halted : (b : Bounds) (s : State) (i : Instr) (at : ℕ) (p : Phase) → (run_phase b s i at p).halt ≡ s.halt
 unfolding run_phase

@@ -1,6 +1,6 @@
 -- No more instructions are issued than the budget allows: only an issue adds one to the log, and it is refused at the
 -- budget.
-use Rattle.std.proofs.Common.{◌≡◌, ◌≤◌, ◌+◌, ℕ, false, List, Option, Some, None, refl, ap, ◌∙◌, arith, leb}
+use Rattle.std.proofs.Common.{◌≡◌, ◌≤◌, ◌+◌, ℕ, false, List, Option, Some, None, refl, arith, leb}
 use Rattle.std.proofs.lemmas.Bool.{leb-false}
 use Rattle.sequential.specs.Log.{issued}
 use Rattle.sequential.specs.Replay.{LogStep}
@@ -23,10 +23,7 @@ below w h = (refusal_none _ h).1.1.0
 
 within_by : (w v : Processor) (r : Option ℕ) (xs : List LogStep) → Books w v r xs
     → issued w.log + issued xs ≤ w.budget → IsWithinBudget v
-within_by w v r xs b h =
-    let e = ap issued b.log ∙ issued-append w.log xs in
-    let k = b.budget in
-    omega (arith, e, k, h)
+within_by w v r xs b h = grind (arith, issued-append)
 
 -- steps that no issue added contain no instruction
 within_still : (w v : Processor) (r : Option ℕ) (xs : List LogStep) → Books w v r xs → issued xs ≡ 0

@@ -1,13 +1,9 @@
 -- Places, channels and banks have valid numbers, and if no word is held, the next parcel is 0.
-use Rattle.std.proofs.Common.{◌≡◌, ◌<◌, ◌≤◌, ◌+◌, ◌%◌, ◌^◌, ℕ, zero, suc, Bool, true, false, cond, List, [], ◌∷◌}
-use Rattle.std.proofs.Common.{Option, Some, None, length, refl, sym, ap, subst, eqb, ltb, get_or, arith}
+use Rattle.std.proofs.Common.{◌≡◌, ◌<◌, ◌≤◌, ℕ, zero, suc, Bool, true, false, cond, List, [], ◌∷◌}
+use Rattle.std.proofs.Common.{Option, Some, None, length, refl, sym, ap, subst, get_or, arith}
 use Rattle.std.specs.Prelude.{not}
-use Rattle.std.proofs.lemmas.Bool.{eqb-true}
 use Rattle.std.proofs.lemmas.List.{length-set}
 use Rattle.instructions.specs.declared.instr.Instr.{Instr}
-use Rattle.instructions.specs.declared.instr.Instr.TheVariants.{Stop, Pass, ReturnJump, Jump, BranchX, BranchB, Copy}
-use Rattle.instructions.specs.declared.instr.Instr.TheVariants.{Invert, Logical, ShiftBy, ShiftNominal, LongAdd, Mask}
-use Rattle.instructions.specs.declared.instr.Instr.TheVariants.{CountOnes, Increment}
 use Rattle.instructions.specs.declared.instr.Reg.{Reg}
 use Rattle.instructions.specs.declared.instr.Unit.{Unit as FunctionalUnit}
 use Rattle.instructions.specs.declared.refusal.Refusal.TheVariants.{Nothing}
@@ -15,7 +11,6 @@ use Rattle.instructions.specs.Finding.{Found, seek}
 use Rattle.instructions.proofs.Finding.{seek_nobody}
 use Rattle.instructions.proofs.Lists.{each_map}
 use Rattle.instruction_table.specs.declared.decoding.Decoded.{Decoded}
-use Rattle.instruction_table.specs.declared.decoding.Decoded.TheVariants.{Legal, Refused, Straddle}
 use Rattle.instruction_table.specs.Decoding.{reading_at}
 use Rattle.relocation.specs.declared.area.Access.{Access}
 use Rattle.relocation.specs.declared.area.Access.TheVariants.{Load as LoadInto, Store as StoreWord}
@@ -23,25 +18,22 @@ use Rattle.sequential.specs.declared.fetching.Fetched.{Fetched}
 use Rattle.sequential.specs.declared.fetching.Fetched.TheVariants.{Halting, Passing, Taking}
 use Rattle.sequential.specs.declared.position.ProgramPosition.{ProgramPosition}
 use Rattle.sequential.specs.declared.state.State.{State}
-use Rattle.sequential.specs.Position.{beginning, after_jump, after_parcel}
+use Rattle.sequential.specs.Position.{after_jump, after_parcel}
 use Rattle.sequential.specs.Replay.{boot}
-use Rattle.sequential.specs.State.{Bounds, bounds_of, jump_to, halt_by, or_fault, move_to, store_word, write, write_all}
-use Rattle.sequential.specs.Step.{fetch, fetched_by, fetched_from, at_instruction, classify, word_seen}
+use Rattle.sequential.specs.State.{Bounds, jump_to, halt_by, or_fault, move_to, store_word, write, write_all}
+use Rattle.sequential.specs.Step.{fetch, fetched_by, fetched_from, classify, word_seen}
 use Rattle.sequential.specs.Swap.{program_entered, swap}
 use Rattle.sequential.specs.Work.{Work, write_and_jump}
 use Rattle.hopper.specs.declared.reference.Reference.{Reference}
-use Rattle.in_flight.specs.declared.pending.Outstanding.TheVariants.{Entered, Accepted}
 use Rattle.in_flight.specs.declared.pending.Pending.{Pending}
 use Rattle.in_flight.specs.declared.pending.Phase.{Phase}
-use Rattle.in_flight.specs.declared.pending.Phase.TheVariants.{Before, After}
 use Rattle.in_flight.specs.declared.pending.Stage.{Stage}
-use Rattle.in_flight.specs.declared.pending.Stage.TheVariants.{Unread, Read as HasRead, Finished}
 use Rattle.in_flight.specs.Lookup.{arrival_at, arrival_in, entry_at, entry_in}
 use Rattle.in_flight.specs.Tests.{accept_tests, free_tests, nothing, refusal_of, return_tests, tests_found}
-use Rattle.in_flight.specs.inner.OwnSlots.{IsPlaced, IsProper, HasOwnSlots}
+use Rattle.in_flight.specs.inner.OwnSlots.{IsPlaced, HasOwnSlots}
 use Rattle.program_order.specs.declared.event.Event.{Event}
-use Rattle.program_order.specs.declared.event.Event.TheVariants.{Issue, Read, Finish, Store as StoreResult, Accept}
-use Rattle.program_order.specs.declared.event.Event.TheVariants.{Return, BankFree, Ask, Exchange, PpRead, PpWrite}
+use Rattle.program_order.specs.declared.event.Event.TheVariants.{Accept}
+use Rattle.program_order.specs.declared.event.Event.TheVariants.{Return, BankFree}
 use Rattle.program_order.specs.Events.{after, after_found, allowed, tests_of}
 use Rattle.program_order.specs.Exchange.{after_exchange}
 use Rattle.program_order.specs.Issue.{after_issue}
@@ -53,41 +45,23 @@ use Rattle.program_order.specs.Units.{after_finish, after_read, after_store, aft
 
 -- ---- places and channels ----
 
-differs : (m n : ℕ) → (m ≡ n → ⊥) → eqb m n ≡ false
-differs m n h = by_test (eqb m n) refl
-  where
-    by_test : (b : Bool) → eqb m n ≡ b → eqb m n ≡ false
-    by_test false e = e
-    by_test true e = absurd (h (eqb-true m n e))
-
 entered_below : (size p : ℕ) (u : FunctionalUnit) (q : Phase) → 3 < p → IsPlaced size u q → entry_in p q ≡ None
 unfolding entry_in
-entered_below size p u (Before t) l h = refl
-entered_below size p u (After (Entered place a access)) l h =
-    ap (λ b. cond b (Some (record { address = a; access = access })) None)
-    (differs place p (λ e. let k = h.0 in omega (arith, e, k, l)))
-entered_below size p u (After (Accepted n word)) l h = refl
+entered_below size p u q l h = grind arith
 
 arrived_between : (size c : ℕ) (u : FunctionalUnit) (q : Phase) → ((n : ℕ) → 0 < n → n < 6 → n ≡ c → ⊥)
     → IsPlaced size u q → arrival_in c q ≡ None
 unfolding arrival_in
-arrived_between size c u (Before t) l h = refl
-arrived_between size c u (After (Entered place a access)) l h = refl
-arrived_between size c u (After (Accepted n word)) l h =
-    ap (λ b. cond b (Some (record { channel = n; word = word })) None) (differs n c (l n h.0 h.1))
+arrived_between size c u q l h = grind arith
 
 none_entered_at : (size p : ℕ) (ms : List Pending) → 3 < p → HasOwnSlots size ms → seek (entry_at p) ms ≡ None
 unfolding entry_at
-none_entered_at size p ms l s = seek_nobody (entry_at p) ms
-    (each_map (IsProper size) (λ m. entry_at p m ≡ None) (λ m h. entered_below size p m.unit m.phase l h.placed) ms
-    s.proper)
+none_entered_at size p ms l s = grind (arith, seek_nobody, each_map, entered_below)
 
 none_arrived_at : (size c : ℕ) (ms : List Pending) → ((n : ℕ) → 0 < n → n < 6 → n ≡ c → ⊥) → HasOwnSlots size ms
     → seek (arrival_at c) ms ≡ None
 unfolding arrival_at
-none_arrived_at size c ms l s = seek_nobody (arrival_at c) ms
-    (each_map (IsProper size) (λ m. arrival_at c m ≡ None) (λ m h. arrived_between size c m.unit m.phase l h.placed) ms
-    s.proper)
+none_arrived_at size c ms l s = grind (arith, seek_nobody, each_map, arrived_between)
 
 pub no_place : (w : Processor) (size p : ℕ) → HasOwnSlots size w.pending → 3 < p → allowed w (Accept p) ≡ Some Nothing
 unfolding allowed tests_of tests_found nothing refusal_of
@@ -126,9 +100,7 @@ banks_found w (Some x) f h = h x
 
 banks_store : (w : Processor) (f : Found Pending Stage) (t : Stage) → length (after_store w f t).busy ≡ length w.busy
 unfolding after_store after_work
-banks_store w f Unread = refl
-banks_store w f (HasRead os) = refl
-banks_store w f (Finished v) = refl
+banks_store w f t = grind arith
 
 banks_accept : (w : Processor) (f : Found Pending Reference) (a : ℕ) (access : Access)
     → length (after_accept w f a access).busy ≡ length w.busy
@@ -138,9 +110,7 @@ banks_accept w f a (StoreWord v) = length-set w.busy _ true
 
 banks_issue : (w : Processor) (g : Fetched) → length (after_issue w g).busy ≡ length w.busy
 unfolding after_issue
-banks_issue w (Halting halt place) = refl
-banks_issue w (Passing place) = refl
-banks_issue w (Taking i place) = refl
+banks_issue w g = grind arith
 
 banks_exchange : (w : Processor) (o : Option ℕ) → length (after_exchange w o).busy ≡ length w.busy
 unfolding after_exchange
@@ -150,17 +120,7 @@ banks_exchange w (Some n) = refl
 -- an event leaves the number of banks unchanged
 pub event_banks : (w : Processor) (e : Event) → length (after w e).busy ≡ length w.busy
 unfolding after after_read after_finish after_return after_pp_read after_pp_write
-event_banks w Issue = banks_issue w _
-event_banks w (Read u) = banks_found w _ _ (λ f. refl)
-event_banks w (Finish u) = banks_found w _ _ (λ f. refl)
-event_banks w (StoreResult u) = banks_found w _ _ (λ f. banks_store w f f.answer)
-event_banks w (Accept p) = banks_found w _ _ (λ f. banks_accept w f f.answer.address f.answer.access)
-event_banks w (Return c) = banks_found w _ _ (λ f. refl)
-event_banks w (BankFree k) = length-set w.busy k false
-event_banks w (Ask n) = refl
-event_banks w Exchange = banks_exchange w w.request
-event_banks w (PpRead a) = refl
-event_banks w (PpWrite a v) = refl
+event_banks w e = grind (arith, banks_issue, banks_found, banks_store, banks_accept, banks_exchange, length-set)
 
 pub boot_banks : (memory : List ℕ) (budget : ℕ) → length (boot_processor memory budget).busy ≡ 32
 unfolding boot_processor
@@ -170,12 +130,7 @@ boot_banks memory budget = refl
 
 moves_to_beginning : (p word next : ℕ) → IsAtBeginning (after_parcel p word next)
 unfolding after_parcel
-moves_to_beginning p word next = by_test (ltb next 4)
-  where
-    by_test : (b : Bool)
-        → IsAtBeginning (cond b (record { p = p; parcel = next; held = Some word }) (beginning ((p + 1) % 2 ^ 18)))
-    by_test true e = cc
-    by_test false e = refl
+moves_to_beginning p word next = grind arith
 
 abbrev Begins : Fetched → Type 0
 Begins (Halting halt place) = IsAtBeginning place
@@ -185,28 +140,11 @@ Begins (Taking i place) = IsAtBeginning place
 begins_met : (position next : ProgramPosition) (i : Instr) → IsAtBeginning position → IsAtBeginning next
     → Begins (classify position next i)
 unfolding classify
-begins_met position next Stop h k = h
-begins_met position next Pass h k = k
-begins_met position next (ReturnJump K) h k = k
-begins_met position next (Jump i K) h k = k
-begins_met position next (BranchX t j K) h k = k
-begins_met position next (BranchB t i j K) h k = k
-begins_met position next (Copy i j) h k = k
-begins_met position next (Invert i j) h k = k
-begins_met position next (Logical o i j l) h k = k
-begins_met position next (ShiftBy d i n) h k = k
-begins_met position next (ShiftNominal d i j l) h k = k
-begins_met position next (LongAdd o i j l) h k = k
-begins_met position next (Mask i n) h k = k
-begins_met position next (CountOnes i j) h k = k
-begins_met position next (Increment t i a) h k = k
+begins_met position next i h k = grind arith
 
 begins_read : (p parcel word : ℕ) (d : Decoded) → Begins (fetched_by p parcel word d)
 unfolding fetched_by
-begins_read p parcel word (Legal i next) =
-    begins_met (at_instruction p parcel word) (after_parcel p word next) i (λ e. cc) (moves_to_beginning p word next)
-begins_read p parcel word (Refused op) = λ e. cc
-begins_read p parcel word Straddle = λ e. cc
+begins_read p parcel word d = grind (arith, begins_met, moves_to_beginning)
 
 begins_from : (p parcel : ℕ) (o : Option ℕ) → Begins (fetched_from p parcel o)
 unfolding fetched_from
@@ -223,9 +161,7 @@ Starts w = IsAtBeginning w.state.position
 
 starts_issue : (w : Processor) (g : Fetched) → Begins g → Starts (after_issue w g)
 unfolding after_issue halt_by move_to
-starts_issue w (Halting halt place) h = h
-starts_issue w (Passing place) h = h
-starts_issue w (Taking i place) h = h
+starts_issue w g h = grind arith
 
 starts_found : {K : Type 0} (w : Processor) (o : Option (Found Pending K)) (f : Found Pending K → Processor)
     → ((x : Found Pending K) → Starts (f x)) → Starts w → Starts (after_found w o f)
@@ -252,9 +188,7 @@ starts_work b s work h =
 
 starts_store : (w : Processor) (f : Found Pending Stage) (t : Stage) → Starts w → Starts (after_store w f t)
 unfolding after_store after_work
-starts_store w f Unread h = h
-starts_store w f (HasRead os) h = h
-starts_store w f (Finished v) h = starts_work (bounds_of w.state) w.state _ h
+starts_store w f t h = grind (arith, starts_work)
 
 starts_accept : (w : Processor) (f : Found Pending Reference) (a : ℕ) (access : Access) → Starts w
     → Starts (after_accept w f a access)
@@ -270,17 +204,8 @@ starts_exchange w (Some n) h = λ e. refl
 -- an event that leaves no word held leaves the machine at the beginning of a word
 pub event_starts : (w : Processor) (e : Event) → Starts w → Starts (after w e)
 unfolding after after_read after_finish after_return after_pp_read after_pp_write write store_word
-event_starts w Issue h = starts_issue w _ (begins_fetched (bounds_of w.state) w.state.memory w.state.position)
-event_starts w (Read u) h = starts_found w _ _ (λ f. h) h
-event_starts w (Finish u) h = starts_found w _ _ (λ f. h) h
-event_starts w (StoreResult u) h = starts_found w _ _ (λ f. starts_store w f f.answer h) h
-event_starts w (Accept p) h = starts_found w _ _ (λ f. starts_accept w f f.answer.address f.answer.access h) h
-event_starts w (Return c) h = starts_found w _ _ (λ f. h) h
-event_starts w (BankFree k) h = h
-event_starts w (Ask n) h = h
-event_starts w Exchange h = starts_exchange w w.request h
-event_starts w (PpRead a) h = h
-event_starts w (PpWrite a v) h = h
+event_starts w e h =
+    grind (arith, starts_issue, begins_fetched, starts_found, starts_store, starts_accept, starts_exchange)
 
 pub boot_starts : (memory : List ℕ) (budget : ℕ) → Starts (boot_processor memory budget)
 unfolding boot_processor boot

@@ -1,19 +1,16 @@
 -- Each refusal is one that its event may have.
-use Rattle.std.proofs.Common.{◌≡◌, Bool, true, false, ◌||◌, List, [], ◌∷◌, Option, Some, None, refl, sym, ap, ◌∙◌}
-use Rattle.std.proofs.Common.{subst, cond, inl, inr}
-use Rattle.std.proofs.lemmas.Option.{same_Some}
-use Rattle.std.specs.Prelude.{Result, Ok, Err, IfErr}
+use Rattle.std.proofs.Common.{◌≡◌, Bool, true, false, ◌||◌, List, [], ◌∷◌, Option, Some, None, refl}
+use Rattle.std.proofs.Common.{arith}
+use Rattle.std.specs.Prelude.{Result, Err, IfErr}
 use Rattle.instructions.specs.declared.refusal.Refusal.{Refusal}
 use Rattle.instructions.specs.declared.refusal.Refusal.TheVariants.{OutOfMemory}
 use Rattle.sequential.specs.declared.fetching.Fetched.{Fetched}
-use Rattle.sequential.specs.declared.fetching.Fetched.TheVariants.{Halting, Passing, Taking}
 use Rattle.program_order.specs.declared.event.Done.{Done}
 use Rattle.program_order.specs.declared.event.Event.{Event}
 use Rattle.program_order.specs.declared.event.Event.TheVariants.{Issue, Read, Finish, Store, Accept, Return, BankFree}
 use Rattle.program_order.specs.declared.event.Event.TheVariants.{Ask, Exchange, PpRead, PpWrite}
 use Rattle.in_flight.specs.declared.pending.Pending.{Pending}
 use Rattle.in_flight.specs.declared.pending.Stage.{Stage}
-use Rattle.in_flight.specs.declared.pending.Stage.TheVariants.{Unread, Read as HasRead, Finished}
 use Rattle.instructions.specs.Each.{Each}
 use Rattle.program_order.specs.Refusals.{is_accept_refusal, is_access_refusal, is_ask_refusal, is_exchange_refusal}
 use Rattle.program_order.specs.Refusals.{is_issue_refusal}
@@ -37,12 +34,7 @@ pub one_of : (p : Refusal → Bool) (ts : List Test) (k : Refusal) → Each (λ 
     → refusal_of ts ≡ Some k → p k ≡ true
 unfolding refusal_of
 one_of p [] k h e = cc
-one_of p (t ∷ ts) k h e = by_test (one_of p ts k h.1) t.fails e
-  where
-    by_test : (refusal_of ts ≡ Some k → p k ≡ true) → (f : Bool) → cond f (Some t.refusal) (refusal_of ts) ≡ Some k
-        → p k ≡ true
-    by_test rest true i = ap p (sym (same_Some t.refusal k i)) ∙ h.0
-    by_test rest false i = rest i
+one_of p (t ∷ ts) k h e = grind (arith, one_of p ts k h.1)
 
 -- if no instruction is found, the refusal is `Nothing`
 found_one_of : {K : Type 0} (p : Refusal → Bool) (o : Option (Found Pending K)) (f : Found Pending K → List Test)
@@ -55,30 +47,22 @@ found_one_of p (Some x) f k h e = one_of (λ r. is_nothing r || p r) (f x) k (h 
 reservation_named : (ms : List Pending) (f : Fetched)
     → Each (λ t. is_issue_refusal t.refusal ≡ true) (reservation_tests ms f)
 unfolding reservation_tests is_issue_refusal
-reservation_named ms (Halting h place) = tt
-reservation_named ms (Passing place) = tt
-reservation_named ms (Taking i place) = (refl, (refl, tt))
+reservation_named ms f = grind arith
 
 read_named : (t : Stage) (x : Found Pending Stage)
     → Each (λ t. (is_nothing t.refusal || is_read_refusal t.refusal) ≡ true) (read_tests t x.earlier x.item.instr)
 unfolding read_tests nothing is_nothing is_read_refusal
-read_named Unread x = (refl, tt)
-read_named (HasRead os) x = (refl, tt)
-read_named (Finished v) x = (refl, tt)
+read_named t x = grind arith
 
 finish_named : (t : Stage) → Each (λ t. (is_nothing t.refusal || false) ≡ true) (finish_tests t)
 unfolding finish_tests nothing is_nothing
-finish_named Unread = (refl, tt)
-finish_named (HasRead os) = tt
-finish_named (Finished v) = (refl, tt)
+finish_named t = grind arith
 
 store_named : (b : Bounds) (ms : List Pending) (t : Stage) (x : Found Pending Stage)
     → Each (λ t. (is_nothing t.refusal || is_store_refusal t.refusal) ≡ true)
     (store_tests b ms t x.earlier x.item.instr)
 unfolding store_tests nothing is_nothing is_store_refusal
-store_named b ms Unread x = (refl, tt)
-store_named b ms (HasRead os) x = (refl, tt)
-store_named b ms (Finished v) x = (refl, (refl, (refl, tt)))
+store_named b ms t x = grind arith
 
 or_false : (b : Bool) → (b || false) ≡ true → b ≡ true
 or_false true h = refl
@@ -110,17 +94,7 @@ refusal_named w (PpWrite a v) k h =
 -- only an event that needs room in the log can be refused for want of memory
 room_named : (e : Event) → makes_room e ≡ true → may_refuse e OutOfMemory ≡ true
 unfolding makes_room may_refuse is_ask_refusal is_access_refusal
-room_named (Ask n) h = refl
-room_named (PpRead a) h = refl
-room_named (PpWrite a v) h = refl
-room_named Issue h = cc
-room_named (Read u) h = cc
-room_named (Finish u) h = cc
-room_named (Store u) h = cc
-room_named (Accept p) h = cc
-room_named (Return c) h = cc
-room_named (BankFree b) h = cc
-room_named Exchange h = cc
+room_named e h = grind arith
 
 err_inj : (k : Refusal) → ◌≡◌ {A = Result Done Refusal} (Err k) (Err OutOfMemory) → OutOfMemory ≡ k
 err_inj k i = cc
@@ -133,6 +107,4 @@ answered_err d (Some x) k e = cc
 pub answer_named : (w : Processor) (e : Event) (a : Result Done Refusal) → IsAnswer w e a
     → IfErr a (λ k. may_refuse e k ≡ true)
 unfolding answer_of answer_by
-answer_named w e (Ok d) h = tt
-answer_named w e (Err k) (inl h) = refusal_named w e k (answered_err _ (allowed w e) k h)
-answer_named w e (Err k) (inr r) = subst (λ x. may_refuse e x ≡ true) (err_inj k r.want) (room_named e r.growing)
+answer_named w e a h = grind (arith, refusal_named, answered_err, err_inj, room_named)

@@ -1,7 +1,6 @@
 -- Reservations are numbered along the log: an event keeps the last number, and an issue answers with the next one.
-use Rattle.std.proofs.Common.{◌≡◌, ◌+◌, ℕ, suc, true, false, List, [], ◌∷◌, ◌++◌, Option, Some, None, refl, sym}
+use Rattle.std.proofs.Common.{◌≡◌, ◌+◌, ℕ, true, false, List, [], ◌∷◌, ◌++◌, Option, Some, None, refl, sym}
 use Rattle.std.proofs.Common.{ap, ◌∙◌, subst, arith, inl, inr}
-use Rattle.std.proofs.lemmas.Option.{same_Some}
 use Rattle.std.specs.Prelude.{unwrap_or, Result, Ok}
 use Rattle.std.specs.List.{list_any}
 use Rattle.instructions.specs.declared.instr.Instr.{Instr}
@@ -25,7 +24,6 @@ use Rattle.sequential.proofs.UnitIssues.{taken-push}
 use Rattle.hopper.specs.declared.reference.Reference.{Reference}
 use Rattle.in_flight.specs.declared.pending.Pending.{Pending}
 use Rattle.in_flight.specs.declared.pending.Stage.{Stage}
-use Rattle.in_flight.specs.declared.pending.Stage.TheVariants.{Unread, Read as HasRead, Finished}
 use Rattle.in_flight.specs.Pending.{is_branch}
 use Rattle.in_flight.specs.Tests.{reservation_tests, unit_for}
 use Rattle.in_flight.proofs.asking.Finding.{refusal_none}
@@ -35,7 +33,6 @@ use Rattle.program_order.specs.declared.event.Event.{Event}
 use Rattle.program_order.specs.declared.event.Event.TheVariants.{Issue, Read, Finish, Store as StoreResult, Accept}
 use Rattle.program_order.specs.declared.event.Event.TheVariants.{Return, BankFree, Ask, Exchange, PpRead, PpWrite}
 use Rattle.program_order.specs.declared.event.Note.{Note}
-use Rattle.program_order.specs.Complete.{complete}
 use Rattle.program_order.specs.Events.{after, after_found, allowed, tests_of}
 use Rattle.program_order.specs.Exchange.{after_exchange}
 use Rattle.program_order.specs.Peripheral.{after_pp_read, after_pp_write}
@@ -57,12 +54,7 @@ taken_completed : (w : Processor) → w.state.halt ≡ None → list_any is_bran
     → taken_in (completed w) ≡ taken_by (fetch (bounds_of w.state) w.state.memory w.state.position)
 unfolding taken_in taken_unless completed
 taken_completed w h nb f =
-    let b = bounds_of w.state in
-    let c = complete b w.state w.pending in
-    ap (taken_unless c) (complete-halted b w.state w.pending ∙ h)
-    ∙ ap (λ d. taken_by (fetch d c.memory c.position)) (complete-bounds b w.state w.pending)
-    ∙ ap (λ k. taken_by (fetch b c.memory k)) (complete-position b w.state w.pending (each_no_branch w.pending nb))
-    ∙ ap taken_by (fetch-same b w.state w.pending w.state.position nb f)
+    grind (arith, complete-halted, complete-bounds, complete-position, each_no_branch, fetch-same)
 
 -- ---- every event ----
 
@@ -74,9 +66,7 @@ numbers_found w (Some x) f h k = h x
 
 numbers_store : (w : Processor) (f : Found Pending Stage) (t : Stage) → IsNumbered w → IsNumbered (after_store w f t)
 unfolding after_store after_work
-numbers_store w f Unread h = h
-numbers_store w f (HasRead os) h = h
-numbers_store w f (Finished v) h = h
+numbers_store w f t h = grind arith
 
 numbers_accept : (w : Processor) (f : Found Pending Reference) (a : ℕ) (access : Access) → IsNumbered w
     → IsNumbered (after_accept w f a access)
@@ -88,10 +78,7 @@ numbers_accept w f a (StoreWord v) h = h
 numbers_step : (w : Processor) (x : LogStep) → ((s : State) → taken_at s x ≡ 0) → IsReplay w → IsNumbered w
     → w.last ≡ taken (boot w.boot_memory) (w.log ++ x ∷ [])
 unfolding replayed
-numbers_step w x z r h =
-    let e = taken-push (boot w.boot_memory) (completed w) w.log x r in
-    let k = z (completed w) in
-    omega (arith, e, h, k)
+numbers_step w x z r h = grind (arith, taken-push (boot w.boot_memory) (completed w) w.log x r)
 
 numbers_exchange : (w : Processor) (o : Option ℕ) → IsReplay w → IsNumbered w → IsNumbered (after_exchange w o)
 unfolding after_exchange taken_at
@@ -102,9 +89,7 @@ numbers_exchange w (Some n) r h = numbers_step w (Exchanged n) (λ s. refl) r h
 issued_count : (w : Processor) (g : Fetched) → IsReplay w → taken_in (completed w) ≡ taken_by g
     → taken (boot w.boot_memory) (w.log ++ Issued ∷ []) ≡ taken (boot w.boot_memory) w.log + one_for (taken_by g)
 unfolding replayed taken_at
-issued_count w g r t =
-    taken-push (boot w.boot_memory) (completed w) w.log Issued r
-    ∙ ap (λ o. taken (boot w.boot_memory) w.log + one_for o) t
+issued_count w g r t = cc (taken-push (boot w.boot_memory) (completed w) w.log Issued r)
 
 numbers_issue : (w : Processor) (g : Fetched) → IsReplay w → IsNumbered w → taken_in (completed w) ≡ taken_by g
     → IsNumbered (after_issue w g)
@@ -118,8 +103,7 @@ issue_taken : (w : Processor) → allowed w Issue ≡ None
     → taken_in (completed w) ≡ taken_by (fetch (bounds_of w.state) w.state.memory w.state.position)
 unfolding allowed tests_of issue_tests
 issue_taken w h =
-    let t = refusal_none _ h in
-    taken_completed w (is_some_none w.state.halt t.0) t.1.1.1.0 t.1.1.1.1.1.0
+    let t = refusal_none _ h in grind (arith, taken_completed, is_some_none)
 
 pub numbers_kept : (w : Processor) (e : Event) → allowed w e ≡ None → IsReplay w → IsNumbered w
     → IsNumbered (after w e)
@@ -156,28 +140,12 @@ noted_by w (Halting halt position) r h t u =
     record { none = λ _. refl; some = λ i e. let k = sym t ∙ e in absurd (cc) }
 noted_by w (Passing position) r h t u = record { none = λ _. refl; some = λ i e. let k = sym t ∙ e in absurd (cc) }
 noted_by w (Taking i position) r h t u =
-    let c = issued_count w (Taking i position) r t in
-    let n : suc w.last ≡ taken (boot w.boot_memory) (w.log ++ Issued ∷ []) = omega (arith, c, h) in
-    let note : Note = record { unit = unwrap_or (unit_for w.pending (uses i).unit) Branch; number = suc w.last } in
-    record {
-      none = λ e. let k = sym t ∙ e in absurd (cc);
-      some = λ j e.
-          let k : i ≡ j = same_Some i j (sym t ∙ e) in (
-            note,
-            refl,
-            record {
-              of_kind = subst (λ x. may_take (uses x).unit note.unit ≡ true) k (reserved_unit w i position u);
-              numbered = n;
-            },
-          );
-    }
+    grind (arith, issued_count w (Taking i position) r t, reserved_unit w i position u)
 
 log_issue : (w : Processor) (g : Fetched)
     → ((after_issue w g).log ≡ w.log ++ Issued ∷ []) × ((after_issue w g).boot_memory ≡ w.boot_memory)
 unfolding after_issue
-log_issue w (Halting halt position) = (refl, refl)
-log_issue w (Passing position) = (refl, refl)
-log_issue w (Taking i position) = (refl, refl)
+log_issue w g = grind arith
 
 issue_reservations : (w : Processor) → allowed w Issue ≡ None
     → Each (λ t. t.fails ≡ false) (reservation_tests w.pending
@@ -192,17 +160,7 @@ ok_done w e d (inr h) a = let k = h.want in absurd (cc)
 
 is_issue : (w : Processor) (e : Event) (note : Option Note) → DoneIssue note ≡ done_by w e → e ≡ Issue
 unfolding done_by
-is_issue w Issue o h = refl
-is_issue w (Read u) o h = absurd (cc)
-is_issue w (Finish u) o h = absurd (cc)
-is_issue w (StoreResult u) o h = absurd (cc)
-is_issue w (Accept p) o h = absurd (cc)
-is_issue w (Return c) o h = absurd (cc)
-is_issue w (BankFree k) o h = absurd (cc)
-is_issue w (Ask n) o h = absurd (cc)
-is_issue w Exchange o h = absurd (cc)
-is_issue w (PpRead a) o h = absurd (cc)
-is_issue w (PpWrite a v) o h = absurd (cc)
+is_issue w e note h = grind arith
 
 note_is : (w : Processor) (note : Option Note) → DoneIssue note ≡ done_by w Issue
     → note ≡ note_by w (fetch (bounds_of w.state) w.state.memory w.state.position)
@@ -215,12 +173,14 @@ noted_at : (w : Processor) (note : Option Note) → IsReplay w → IsNumbered w 
 unfolding after
 noted_at w note r h a d =
     let g = fetch (bounds_of w.state) w.state.memory w.state.position in
-    let l = log_issue w g in
-    subst (λ o. IsNoted (completed w) (taken (boot (after_issue w g).boot_memory) (after_issue w g).log) o)
-    (sym (note_is w note d))
-    (subst (λ n. IsNoted (completed w) n (note_by w g))
-    (sym (ap (λ m. taken (boot m) (after_issue w g).log) l.1 ∙ ap (taken (boot w.boot_memory)) l.0))
-    (noted_by w g r h (issue_taken w a) (issue_reservations w a)))
+    grind (
+      arith,
+      log_issue w g,
+      note_is w note d,
+      noted_by w g r h (issue_taken w a) (issue_reservations w a),
+      issue_taken w a,
+      issue_reservations w a,
+    )
 
 pub noted : (w v : Processor) (e : Event) (a : Result Done Refusal) (note : Option Note) → IsReplay w → IsNumbered w
     → IsAnswer w e a → v ≡ settled w e a → a ≡ Ok (DoneIssue note)
@@ -230,7 +190,4 @@ noted w v e a note r h i s o =
     let k : IsAnswer w e (Ok (DoneIssue note)) = subst (IsAnswer w e) o i in
     let free = made_allowed w e (DoneIssue note) k in
     let d = ok_done w e (DoneIssue note) k free in
-    let is = is_issue w e note d in
-    let now : v ≡ after w Issue = s ∙ ap (settled w e) o ∙ ap (after w) is in
-    subst (λ (x : Processor). IsNoted (completed w) (taken (boot x.boot_memory) x.log) note) (sym now)
-    (noted_at w note r h (subst (λ x. allowed w x ≡ None) is free) (subst (λ x. DoneIssue note ≡ done_by w x) is d))
+    let is = is_issue w e note d in grind (arith, noted_at)

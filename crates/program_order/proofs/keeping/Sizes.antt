@@ -1,21 +1,19 @@
 -- Memory keeps its size, and the package of a request is within it.
 use Rattle.std.specs.Prelude.{option_and_then}
 use Rattle.std.proofs.Common.{◌≡◌, ◌≤◌, ◌+◌, ℕ, Bool, true, false, List, [], ◌∷◌, Option, Some, None, cond, length}
-use Rattle.std.proofs.Common.{refl, sym, ap, ◌∙◌, subst, ltb}
+use Rattle.std.proofs.Common.{refl, sym, ap, ◌∙◌, subst, arith}
 use Rattle.std.proofs.lemmas.List.{length-set}
 use Rattle.std.specs.Prelude.{is_some, unwrap_or}
 use Rattle.std.proofs.lemmas.Bool.{false≢true, leb-true}
-use Rattle.instructions.specs.declared.refusal.Halt.{Halt}
 use Rattle.exchange_package.specs.Package.{words_of}
 use Rattle.relocation.specs.Relocation.{package_fits}
 use Rattle.relocation.proofs.Overwriting.{length-overwritten}
 use Rattle.sequential.specs.declared.fetching.Fetched.{Fetched}
-use Rattle.sequential.specs.declared.fetching.Fetched.TheVariants.{Halting, Passing, Taking}
 use Rattle.sequential.specs.declared.state.State.{State}
-use Rattle.sequential.specs.Replay.{LogStep, Issued, Exchanged, ReadAt, Wrote, do_log_step, replay}
+use Rattle.sequential.specs.Replay.{LogStep, do_log_step, replay}
 use Rattle.sequential.specs.Replay.{boot}
 use Rattle.sequential.specs.State.{Bounds, bounds_of, halt_by, move_to, store_word}
-use Rattle.sequential.specs.Step.{do_fetched, do_instruction, fetch, step, step_unless}
+use Rattle.sequential.specs.Step.{do_fetched, do_instruction, step, step_unless}
 use Rattle.sequential.specs.Swap.{program_entered, package_of, swap}
 use Rattle.program_order.specs.Invariant.{Fits, IsReplay}
 use Rattle.program_order.specs.Processor.{Processor, completed, replayed}
@@ -24,18 +22,11 @@ use Rattle.program_order.proofs.effects.Effects.{do_work-bounds}
 
 fetched_size : (b : Bounds) (s : State) (at : ℕ) (g : Fetched) → length (do_fetched b s at g).memory ≡ length s.memory
 unfolding do_fetched do_instruction halt_by move_to bounds_of
-fetched_size b s at (Halting h position) = refl
-fetched_size b s at (Passing position) = refl
-fetched_size b s at (Taking i position) = ap (λ (d : Bounds). d.size)
-    (do_work-bounds b (record s { position = position }) _)
+fetched_size b s h g = grind (arith, do_work-bounds)
 
 step_size : (s : State) → length (step s).memory ≡ length s.memory
 unfolding step step_unless
-step_size s = by_halt s.halt
-  where
-    by_halt : (h : Option Halt) → length (step_unless s h).memory ≡ length s.memory
-    by_halt None = fetched_size (bounds_of s) s s.position.p (fetch (bounds_of s) s.memory s.position)
-    by_halt (Some h) = refl
+step_size s = grind (arith, fetched_size)
 
 pub package_within : (n size : ℕ) → package_fits n size ≡ true → n + 16 ≤ size
 unfolding package_fits
@@ -53,15 +44,7 @@ if_within false s u t e k = absurd (false≢true (ap is_some e))
 
 log_step_size : (s : State) (x : LogStep) (t : State) → do_log_step s x ≡ Some t → length t.memory ≡ length s.memory
 unfolding do_log_step store_word
-log_step_size s Issued t h = sym (ap (λ o. length (unwrap_or o s).memory) h) ∙ step_size s
-log_step_size s (Exchanged n) t h = by_fit (package_fits n (length s.memory)) refl h
-  where
-    by_fit : (b : Bool) → package_fits n (length s.memory) ≡ b → cond b (Some (swap n s)) None ≡ Some t
-        → length t.memory ≡ length s.memory
-    by_fit true f e = sym (ap (λ o. length (unwrap_or o s).memory) e) ∙ swap_size s n f
-    by_fit false f e = absurd (false≢true (ap is_some e))
-log_step_size s (ReadAt a) t h = if_within (ltb a (length s.memory)) s s t h refl
-log_step_size s (Wrote a w) t h = if_within (ltb a (length s.memory)) s (store_word s a w) t h (length-set s.memory a w)
+log_step_size s x t h = grind (arith, step_size, swap_size, if_within, false≢true, length-set)
 
 pub replay_size : (s : State) (xs : List LogStep) (t : State) → replay s xs ≡ Some t → length t.memory ≡ length s.memory
 unfolding replay

@@ -1,17 +1,13 @@
 -- Slots after each event, instruction by instruction: no two instructions share one.
-use Rattle.std.proofs.Common.{◌≡◌, ◌<◌, ◌+◌, ℕ, Bool, true, false, cond, List, [], ◌∷◌, ◌++◌, Option, Some, None}
+use Rattle.std.proofs.Common.{◌≡◌, ◌<◌, ◌+◌, ℕ, Bool, true, false, List, [], ◌∷◌, ◌++◌, Option, Some, None}
 use Rattle.std.proofs.Common.{length, refl, sym, ap, ◌∙◌, subst, get_or, arith}
-use Rattle.std.proofs.lemmas.Bool.Decides.{nat_tests}
 use Rattle.std.proofs.lemmas.List.{length-set}
-use Rattle.std.specs.Prelude.{◌&&◌, nat_lt, is_none, unwrap_or}
+use Rattle.std.specs.Prelude.{◌&&◌, is_none, unwrap_or}
 use Rattle.std.specs.List.{list_any}
 use Rattle.instructions.specs.declared.instr.Unit.{Unit as FunctionalUnit}
 use Rattle.instructions.specs.declared.instr.Unit.TheVariants.{Branch}
 use Rattle.instructions.specs.declared.instr.UnitKind.{UnitKind}
-use Rattle.instructions.specs.declared.instr.UnitKind.TheVariants.{Branch as BranchKind, Boolean as BooleanKind}
-use Rattle.instructions.specs.declared.instr.UnitKind.TheVariants.{Shift as ShiftKind, LongAdd as LongAddKind}
-use Rattle.instructions.specs.declared.instr.UnitKind.TheVariants.{Divide as DivideKind, Increment as IncrementKind}
-use Rattle.instructions.specs.Shape.{Shape, Sets, Loads, Stores, Jumps, Links, shape_of}
+use Rattle.instructions.specs.Shape.{Shape, Loads, shape_of}
 use Rattle.instructions.specs.Operands.{uses}
 use Rattle.relocation.specs.declared.area.Access.{Access}
 use Rattle.relocation.specs.declared.area.Access.TheVariants.{Load as LoadInto, Store as StoreWord}
@@ -22,7 +18,6 @@ use Rattle.scoreboard.specs.Units.{same_unit, units_of, may_take}
 use Rattle.scoreboard.specs.Conflicts.{is_held, first_free, free_unit, unit_for as free_unit_for}
 use Rattle.sequential.specs.declared.work.ProgramReference.{ProgramReference}
 use Rattle.sequential.specs.declared.fetching.Fetched.{Fetched}
-use Rattle.sequential.specs.declared.fetching.Fetched.TheVariants.{Halting, Passing, Taking}
 use Rattle.sequential.specs.State.{Bounds, bounds_of, absolute, store_word, write, move_to, halt_by}
 use Rattle.sequential.specs.Work.{reference_for, work_of}
 use Rattle.unit_ops.specs.declared.UnitValue.{UnitValue}
@@ -69,30 +64,11 @@ use Rattle.program_order.proofs.theorem.Theorem.{not_pending}
 pub reference_loadable : (h : Shape) (v : UnitValue) (r : ProgramReference) → ((n : ℕ) → h ≡ Loads n → IsChannel n)
     → reference_for h v ≡ Some r → IsLoadable r.access
 unfolding reference_for
-reference_loadable (Sets rs) v r f e = cc
-reference_loadable (Loads n) v r f e = subst (λ o. IsLoadable o) (access_is e) (f n refl)
-  where
-    access_is : {a : ℕ} → Some (record { address = a; access = LoadInto n }) ≡ Some r → LoadInto n ≡ r.access
-    access_is {a} k = cc
-reference_loadable (Stores n) v r f e = subst (λ o. IsLoadable o) (store_is e) tt
-  where
-    store_is : {a w : ℕ} → Some (record { address = a; access = StoreWord w }) ≡ Some r → StoreWord w ≡ r.access
-    store_is {a} {w} k = cc
-reference_loadable Jumps v r f e = cc
-reference_loadable Links v r f e = subst (λ o. IsLoadable o) (store_is e) tt
-  where
-    store_is : {a w : ℕ} → Some (record { address = a; access = StoreWord w }) ≡ Some r → StoreWord w ≡ r.access
-    store_is {a} {w} k = cc
+reference_loadable h v r f e = grind arith
 
 pub absolute_below : (b : Bounds) (a k : ℕ) → absolute b a ≡ Some k → k < b.size
 unfolding absolute relocate
-absolute_below b a k h = by_test (nat_lt a b.area.fl && nat_lt (b.area.ra + a) b.size) refl h
-  where
-    by_test : (t : Bool) → (nat_lt a b.area.fl && nat_lt (b.area.ra + a) b.size) ≡ t
-        → cond t (Some (b.area.ra + a)) None ≡ Some k → k < b.size
-    by_test true e f = let g : b.area.ra + a ≡ k =
-        cc in let l : b.area.ra + a < b.size = grind (arith, nat_tests) in omega (arith, g, l)
-    by_test false e f = cc
+absolute_below b a k h = grind arith
 
 -- ---- what is left of a reference ----
 
@@ -100,16 +76,7 @@ entering_placed : (size : ℕ) (u : FunctionalUnit) (p : ℕ) (o : Option ℕ) (
     → ((a : ℕ) → o ≡ Some a → a < size) → IsLoadable access → (enters (entering 0 o access) ≡ true → p < 4)
     → entering p o access ≡ Some l → IsPlaced size u (After l)
 unfolding entering enters
-entering_placed size u p (Some a) access l f g h e =
-    subst (λ k. IsPlaced size u (After k)) (entered_is e) (h refl, f a refl, g)
-  where
-    entered_is : Some (Entered p a access) ≡ Some l → Entered p a access ≡ l
-    entered_is k = cc
-entering_placed size u p None (LoadInto n) l f g h e = subst (λ k. IsPlaced size u (After k)) (accepted_is e) g
-  where
-    accepted_is : Some (Accepted n 0) ≡ Some l → Accepted n 0 ≡ l
-    accepted_is k = cc
-entering_placed size u p None (StoreWord w) l f g h e = cc
+entering_placed size u p o access l f g h e = grind arith
 
 rest_placed : (b : Bounds) (u : FunctionalUnit) (p : ℕ) (r : Option ProgramReference) (l : Outstanding)
     → ((x : ProgramReference) → r ≡ Some x → IsLoadable x.access) → (enters (rest_of b 0 r) ≡ true → p < 4)
@@ -170,18 +137,14 @@ read_slotted : (w : Processor) (u : FunctionalUnit) (o : Option (Found Pending S
 unfolding after_found after_read put_back
 read_slotted w u None e h = h
 read_slotted w u (Some f) e h =
-    let p = seek_splits (stage_at u) w.pending f e in
-    slotted_stage (length w.state.memory) f.earlier f.item f.later f.answer _ (stage_found u f.item f.answer p.1)
-    (split_slotted w f.earlier f.item f.later p.0 h)
+    let p = seek_splits (stage_at u) w.pending f e in search (arith, slotted_stage, stage_found, split_slotted)
 
 finish_slotted : (w : Processor) (u : FunctionalUnit) (o : Option (Found Pending Stage))
     → seek (stage_at u) w.pending ≡ o → IsSlottedWhole w → IsSlottedWhole (after_found w o (after_finish w))
 unfolding after_found after_finish put_back
 finish_slotted w u None e h = h
 finish_slotted w u (Some f) e h =
-    let p = seek_splits (stage_at u) w.pending f e in
-    slotted_stage (length w.state.memory) f.earlier f.item f.later f.answer _ (stage_found u f.item f.answer p.1)
-    (split_slotted w f.earlier f.item f.later p.0 h)
+    let p = seek_splits (stage_at u) w.pending f e in search (arith, slotted_stage, stage_found, split_slotted)
 
 kept_slotted : (b : Bounds) (es : List Pending) (m : Pending) (ls : List Pending) (p : ℕ) (r : Option ProgramReference)
     (o : Option Outstanding) → rest_of b p r ≡ o → ((x : ProgramReference) → r ≡ Some x → IsLoadable x.access)
@@ -240,8 +203,7 @@ unfolding after_found
 accept_slotted w p None e h = h
 accept_slotted w p (Some f) e h =
     let q = seek_splits (entry_at p) w.pending f e in
-    let k = entry_found p f.item f.answer q.1 in
-    accept_at w f k.0 f.answer.address f.answer.access q.0 k.1 h
+    let k = entry_found p f.item f.answer q.1 in search (arith, accept_at)
 
 return_slotted : (w : Processor) (c : ℕ) (o : Option (Found Pending Arrival)) → seek (arrival_at c) w.pending ≡ o
     → IsSlottedWhole w → IsSlottedWhole (after_found w o (after_return w))
@@ -260,23 +222,13 @@ IsInUse kind u = (unit_slot u < 7) × (may_take (Some kind) u ≡ true)
 
 in_use : (kind : UnitKind) → Each (IsInUse kind) (units_of kind)
 unfolding units_of unit_slot may_take same_unit
-in_use BranchKind = ((omega arith, refl), tt)
-in_use BooleanKind = ((omega arith, refl), tt)
-in_use ShiftKind = ((omega arith, refl), tt)
-in_use LongAddKind = ((omega arith, refl), tt)
-in_use DivideKind = ((omega arith, refl), tt)
-in_use IncrementKind = ((omega arith, refl), ((omega arith, refl), tt))
+in_use kind = grind arith
 
 first_free_found : (kind : UnitKind) (held : FunctionalUnit → Bool) (us : List FunctionalUnit) (u : FunctionalUnit)
     → Each (IsInUse kind) us → first_free held us ≡ Some u → (held u ≡ false) × IsInUse kind u
 unfolding first_free
 first_free_found kind held [] u h e = cc
-first_free_found kind held (v ∷ us) u h e = by_test (held v) refl e (first_free_found kind held us u h.1)
-  where
-    by_test : (t : Bool) → held v ≡ t → cond t (first_free held us) (Some v) ≡ Some u
-        → (first_free held us ≡ Some u → (held u ≡ false) × IsInUse kind u) → (held u ≡ false) × IsInUse kind u
-    by_test true i k rest = rest k
-    by_test false i k rest = let g : v ≡ u = cc in (ap held (sym g) ∙ i, subst (IsInUse kind) g h.0)
+first_free_found kind held (v ∷ us) u h e = grind (arith, first_free_found kind held us u h.1)
 
 -- the unit that an instruction takes
 pub record TakesUnit (ms : List Pending) (kind : Option UnitKind) (u : FunctionalUnit) : Type 0 where
@@ -326,18 +278,13 @@ slotted_push size ms m e u h free s = record {
       (each_both (IsProper size) (λ x. holds m.unit x ≡ false) (λ x. clash x m ≡ false)
       (λ x p k. new_clash size x m e h p k) ms s.proper
       (each_of_any (holds m.unit) (λ x. holds m.unit x ≡ false) (λ x k. k) ms free));
-  proper = each_append (IsProper size) ms (m ∷ []) s.proper
-      (record { of_kind = u; placed = subst (IsPlaced size m.unit) (sym e) h }, tt);
+  proper = grind (arith, each_append);
 }
 
 pub issue_slotted : (w : Processor) (g : Fetched) → Each (λ t. t.fails ≡ false) (reservation_tests w.pending g)
     → IsSlottedWhole w → IsSlottedWhole (after_issue w g)
 unfolding after_issue reservation_tests move_to halt_by
-issue_slotted w (Halting k place) h s = s
-issue_slotted w (Passing place) h s = s
-issue_slotted w (Taking i place) h s =
-    let t = unit_found w.pending (uses i).unit h.0 in
-    slotted_push (length w.state.memory) w.pending _ refl t.of_kind t.in_use t.free s
+issue_slotted w g h s = grind (arith, unit_found, slotted_push, in_use)
 
 exchange_slotted : (w : Processor) (o : Option ℕ) → w.pending ≡ [] → IsSlottedWhole w
     → IsSlottedWhole (after_exchange w o)

@@ -1,7 +1,6 @@
 -- What a refusal says about the state that the log leads to.
-use Rattle.std.proofs.Common.{◌≡◌, ◌⊎◌, ◌||◌, ℕ, Bool, true, false, List, [], ◌∷◌, Option, Some, None, cond, refl}
-use Rattle.std.proofs.Common.{sym, ap, ◌∙◌, subst, get_or, inl, inr, ⊎_elim}
-use Rattle.std.proofs.lemmas.Bool.{and_parts}
+use Rattle.std.proofs.Common.{◌≡◌, ◌⊎◌, ◌||◌, ℕ, Bool, true, false, List, [], ◌∷◌, Option, Some, None, refl}
+use Rattle.std.proofs.Common.{sym, ap, ◌∙◌, subst, get_or, ⊎_elim, arith}
 use Rattle.std.specs.Prelude.{◌&&◌, not, is_some, is_none, unwrap_or, Result, Ok, Err, IfErr}
 use Rattle.instructions.specs.declared.refusal.Halt.{Halt}
 use Rattle.instructions.specs.declared.refusal.Halt.TheVariants.{Stop}
@@ -9,9 +8,8 @@ use Rattle.instructions.specs.declared.refusal.Refusal.{Refusal}
 use Rattle.instructions.specs.declared.refusal.Refusal.TheVariants.{Halted, Faulted, OutOfMemory, MidWord}
 use Rattle.instructions.specs.Each.{Each}
 use Rattle.sequential.specs.declared.fetching.Fetched.{Fetched}
-use Rattle.sequential.specs.declared.fetching.Fetched.TheVariants.{Halting, Passing, Taking}
 use Rattle.sequential.specs.declared.state.State.{State}
-use Rattle.sequential.specs.State.{Bounds, bounds_of, or_fault}
+use Rattle.sequential.specs.State.{Bounds, or_fault}
 use Rattle.in_flight.specs.declared.pending.Pending.{Pending}
 use Rattle.in_flight.specs.Lookup.{is_pending}
 use Rattle.in_flight.specs.Tests.{Test, refusal_of, reservation_tests}
@@ -19,8 +17,8 @@ use Rattle.in_flight.proofs.asking.Finding.{refusal_none}
 use Rattle.program_order.specs.declared.event.Done.{Done}
 use Rattle.program_order.specs.declared.event.Done.TheVariants.{Word}
 use Rattle.program_order.specs.declared.event.Event.{Event}
-use Rattle.program_order.specs.declared.event.Event.TheVariants.{Issue, Read, Finish, Store as StoreResult, Accept}
-use Rattle.program_order.specs.declared.event.Event.TheVariants.{Return, BankFree, Ask, Exchange, PpRead, PpWrite}
+use Rattle.program_order.specs.declared.event.Event.TheVariants.{Issue}
+use Rattle.program_order.specs.declared.event.Event.TheVariants.{Exchange, PpRead}
 use Rattle.program_order.specs.Complete.{complete}
 use Rattle.program_order.specs.Events.{after, allowed, tests_of}
 use Rattle.program_order.specs.Exchange.{exchange_tests}
@@ -61,12 +59,7 @@ complete-fault b s ms h =
 first_or_rest : (t : Test) (ts : List Test) (k : Refusal) → refusal_of (t ∷ ts) ≡ Some k
     → ((t.fails ≡ true) × (t.refusal ≡ k)) ⊎ ((t.fails ≡ false) × (refusal_of ts ≡ Some k))
 unfolding refusal_of
-first_or_rest t ts k h = by_test t.fails refl h
-  where
-    by_test : (f : Bool) → t.fails ≡ f → cond f (Some t.refusal) (refusal_of ts) ≡ Some k
-        → ((t.fails ≡ true) × (t.refusal ≡ k)) ⊎ ((t.fails ≡ false) × (refusal_of ts ≡ Some k))
-    by_test true e i = inl (e, cc)
-    by_test false e i = inr (e, i)
+first_or_rest t ts k h = grind arith
 
 -- ---- an issue ----
 
@@ -77,9 +70,7 @@ is_other _ = true
 
 reservations_other : (ms : List Pending) (g : Fetched) → Each (λ t. is_other t.refusal ≡ true) (reservation_tests ms g)
 unfolding reservation_tests is_other
-reservations_other ms (Halting h position) = tt
-reservations_other ms (Passing position) = tt
-reservations_other ms (Taking i position) = (refl, (refl, tt))
+reservations_other ms g = grind arith
 
 halt_is : (o : Option Halt) (h : Halt) → is_some o ≡ true → Halted (unwrap_or o Stop) ≡ Halted h → o ≡ Some h
 halt_is None h e i = absurd (cc)
@@ -109,14 +100,6 @@ issue_faulted w e =
 
 -- ---- an exchange ----
 
-is_none_none : (o : Option Halt) → is_none o ≡ true → o ≡ None
-is_none_none None e = refl
-is_none_none (Some x) e = absurd (cc)
-
-not_true : (b : Bool) → not b ≡ true → b ≡ false
-not_true true e = absurd (cc)
-not_true false e = refl
-
 none_left : refusal_of [] ≡ Some MidWord → ⊥
 unfolding refusal_of
 none_left k = cc
@@ -129,15 +112,7 @@ record IsMidWord (w : Processor) : Type 0 where
 
 in_mid_word : (w : Processor) → is_pending w.pending ≡ false
     → (is_none w.state.halt && (not w.state.fault && is_some w.state.position.held)) ≡ true → IsMidWord w
-in_mid_word w p h =
-    let a = and_parts _ _ h in
-    let b = and_parts _ _ a.1 in
-    record {
-      drained = not_pending w.pending p;
-      halt = is_none_none _ a.0;
-      fault = not_true _ b.0;
-      held = b.1;
-    }
+in_mid_word w p h = grind (arith, not_pending w.pending p)
 
 exchange_mid_word : (w : Processor) → allowed w Exchange ≡ Some MidWord → IsMidWord w
 unfolding allowed tests_of exchange_tests
@@ -152,66 +127,29 @@ exchange_mid_word w e =
 
 halted_issue : (e : Event) (h : Halt) → may_refuse e (Halted h) ≡ true → e ≡ Issue
 unfolding refusals_by_event
-halted_issue Issue h i = refl
-halted_issue (Read u) h i = absurd (cc)
-halted_issue (Finish u) h i = absurd (cc)
-halted_issue (StoreResult u) h i = absurd (cc)
-halted_issue (Accept p) h i = absurd (cc)
-halted_issue (Return c) h i = absurd (cc)
-halted_issue (BankFree k) h i = absurd (cc)
-halted_issue (Ask n) h i = absurd (cc)
-halted_issue Exchange h i = absurd (cc)
-halted_issue (PpRead a) h i = absurd (cc)
-halted_issue (PpWrite a v) h i = absurd (cc)
+halted_issue e h i = grind arith
 
 faulted_issue : (e : Event) → may_refuse e Faulted ≡ true → e ≡ Issue
 unfolding refusals_by_event
-faulted_issue Issue i = refl
-faulted_issue (Read u) i = absurd (cc)
-faulted_issue (Finish u) i = absurd (cc)
-faulted_issue (StoreResult u) i = absurd (cc)
-faulted_issue (Accept p) i = absurd (cc)
-faulted_issue (Return c) i = absurd (cc)
-faulted_issue (BankFree k) i = absurd (cc)
-faulted_issue (Ask n) i = absurd (cc)
-faulted_issue Exchange i = absurd (cc)
-faulted_issue (PpRead a) i = absurd (cc)
-faulted_issue (PpWrite a v) i = absurd (cc)
+faulted_issue e i = grind arith
 
 mid_word_exchange : (e : Event) → may_refuse e MidWord ≡ true → e ≡ Exchange
 unfolding refusals_by_event
-mid_word_exchange Issue i = absurd (cc)
-mid_word_exchange (Read u) i = absurd (cc)
-mid_word_exchange (Finish u) i = absurd (cc)
-mid_word_exchange (StoreResult u) i = absurd (cc)
-mid_word_exchange (Accept p) i = absurd (cc)
-mid_word_exchange (Return c) i = absurd (cc)
-mid_word_exchange (BankFree k) i = absurd (cc)
-mid_word_exchange (Ask n) i = absurd (cc)
-mid_word_exchange Exchange i = refl
-mid_word_exchange (PpRead a) i = absurd (cc)
-mid_word_exchange (PpWrite a v) i = absurd (cc)
+mid_word_exchange e i = grind arith
 
 why : (w : Processor) (e : Event) (k : Refusal) → allowed w e ≡ Some k → IsWhy (completed w) k
 unfolding completed
 why w e k a = record {
   halted = λ h i.
       let b : allowed w e ≡ Some (Halted h) = a ∙ ap Some i in
-      let is = halted_issue e h (refusal_named w e (Halted h) b) in
-      complete-halted (bounds_of w.state) w.state w.pending ∙ issue_halted w h (ap (allowed w) (sym is) ∙ b);
+      let is = halted_issue e h (refusal_named w e (Halted h) b) in grind (arith, complete-halted, issue_halted);
   faulted = λ i.
       let b : allowed w e ≡ Some Faulted = a ∙ ap Some i in
-      let is = faulted_issue e (refusal_named w e Faulted b) in
-      complete-fault (bounds_of w.state) w.state w.pending (issue_faulted w (ap (allowed w) (sym is) ∙ b));
+      let is = faulted_issue e (refusal_named w e Faulted b) in grind (arith, complete-fault, issue_faulted);
   mid_word = λ i.
       let b : allowed w e ≡ Some MidWord = a ∙ ap Some i in
       let is = mid_word_exchange e (refusal_named w e MidWord b) in
-      let m = exchange_mid_word w (ap (allowed w) (sym is) ∙ b) in
-      let d = drained_completed w m.drained in (
-        ap (λ (s : State). s.halt) d ∙ m.halt,
-        ap (λ (s : State). s.fault) d ∙ m.fault,
-        ap (λ (s : State). is_some s.position.held) d ∙ m.held,
-      );
+      let m = exchange_mid_word w (ap (allowed w) (sym is) ∙ b) in grind (arith, drained_completed);
 }
 
 wanting : (s : State) (k : Refusal) → ◌≡◌ {A = Result Done Refusal} (Err k) (Err OutOfMemory) → IsWhy s k
@@ -220,9 +158,7 @@ wanting s k e = record { halted = λ h i. absurd (cc); faulted = λ i. absurd (c
 pub answer_why : (w : Processor) (e : Event) (a : Result Done Refusal) → IsAnswer w e a
     → IfErr a (λ k. IsWhy (completed w) k)
 unfolding answer_of
-answer_why w e (Ok d) h = tt
-answer_why w e (Err k) (inl h) = why w e k (answered_err _ (allowed w e) k h)
-answer_why w e (Err k) (inr r) = wanting (completed w) k r.want
+answer_why w e a h = grind (arith, why, answered_err, wanting)
 
 -- ---- what a made event tells ----
 
@@ -241,7 +177,4 @@ pub word_told : (w v : Processor) (a : ℕ) (r : Result Done Refusal) (d : Done)
 unfolding done_by settled after after_pp_read completed
 word_told w v a r d i s o =
     let k : IsAnswer w (PpRead a) (Ok d) = subst (IsAnswer w (PpRead a)) o i in
-    let free = made_allowed w (PpRead a) d k in
-    ok_done w (PpRead a) d k free
-    ∙ ap Word (completed_read w a free)
-    ∙ ap (λ x. Word (get_or (completed x).memory a 0)) (sym (s ∙ ap (settled w (PpRead a)) o))
+    let free = made_allowed w (PpRead a) d k in cc (ok_done w (PpRead a) d k free, completed_read w a free)

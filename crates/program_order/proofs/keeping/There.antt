@@ -1,14 +1,12 @@
 -- Facts about a found instruction that follow from the slots.
-use Rattle.std.proofs.Common.{◌≡◌, ◌<◌, ℕ, true, Option, Some, None, List, length, refl, subst}
+use Rattle.std.proofs.Common.{◌≡◌, ◌<◌, ℕ, true, Option, Some, None, List, length, refl, subst, arith}
 use Rattle.std.specs.Prelude.{IsSome, IfSome}
 use Rattle.instructions.specs.Operands.{uses}
 use Rattle.instructions.specs.declared.instr.Unit.{Unit as FunctionalUnit}
 use Rattle.instructions.specs.declared.instr.UnitKind.{UnitKind}
 use Rattle.hopper.specs.declared.reference.Reference.{Reference}
 use Rattle.program_order.specs.declared.event.Event.TheVariants.{Accept}
-use Rattle.in_flight.specs.declared.pending.Outstanding.TheVariants.{Entered}
 use Rattle.in_flight.specs.declared.pending.Pending.{Pending}
-use Rattle.in_flight.specs.declared.pending.Phase.TheVariants.{After}
 use Rattle.in_flight.specs.Lookup.{located, entry_at}
 use Rattle.scoreboard.specs.Units.{may_take}
 use Rattle.in_flight.specs.inner.OwnSlots.{HasOwnSlots, IsProper}
@@ -18,7 +16,7 @@ use Rattle.program_order.specs.Events.{allowed, tests_of}
 use Rattle.in_flight.specs.Tests.{accept_tests, refusal_of, tests_found}
 use Rattle.instructions.proofs.Finding.{seek_splits}
 use Rattle.in_flight.proofs.asking.Finding.{entry_found, no_sought, not_nothing, sought_pending}
-use Rattle.in_flight.proofs.asking.Slotting.{proper_there, placed_in}
+use Rattle.in_flight.proofs.asking.Slotting.{proper_there}
 
 found_proper : {K : Type 0} (size : ℕ) (ms : List Pending) (g : Pending → Option K) (f : Found Pending K)
     → seek g ms ≡ Some f → HasOwnSlots size ms → IsProper size f.item
@@ -56,7 +54,9 @@ entry_within w place r a h s = found (seek (entry_at place) w.pending) refl a h
         → r.address < length w.state.memory
     found None e k i = absurd (not_nothing k)
     found (Some f) e k i =
-        let p = entry_found place f.item f.answer (seek_splits (entry_at place) w.pending f e).1 in
-        subst (λ (x : Reference). x.address < length w.state.memory) i
-        (placed_in (length w.state.memory) f.item (After (Entered p.0 f.answer.address f.answer.access)) p.1
-        (found_proper (length w.state.memory) w.pending (entry_at place) f e s)).1
+        grind (
+          arith,
+          entry_found place f.item f.answer (seek_splits (entry_at place) w.pending f e).1,
+          seek_splits (entry_at place) w.pending f e,
+          found_proper (length w.state.memory) w.pending (entry_at place) f e s,
+        )

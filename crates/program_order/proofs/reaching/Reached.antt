@@ -1,14 +1,12 @@
 -- Reaching a machine, call by call.
 use Rattle.std.proofs.Common.{◌≡◌, ℕ, true, false, List, [], ◌∷◌, ◌++◌, drop, length, replicate, append_assoc, None}
-use Rattle.std.proofs.Common.{refl, sym, ap, ◌∙◌, subst, subst₂, inl}
+use Rattle.std.proofs.Common.{refl, sym, ap, ◌∙◌, subst, inl, arith}
 use Rattle.std.proofs.Math.Seq.{drop-append_seam}
 use Rattle.std.specs.Prelude.{Result, Ok}
 use Rattle.instructions.specs.declared.refusal.Refusal.{Refusal}
 use Rattle.program_order.specs.declared.event.Done.{Done}
 use Rattle.program_order.specs.declared.event.Done.TheVariants.{Made}
 use Rattle.program_order.specs.declared.event.Event.{Event}
-use Rattle.program_order.specs.declared.event.Event.TheVariants.{Issue, Read, Finish, Store as StoreResult, Accept}
-use Rattle.program_order.specs.declared.event.Event.TheVariants.{Return, BankFree, Ask, Exchange, PpRead, PpWrite}
 use Rattle.program_order.specs.Headline.{GainsAccesses, makes_no_exchange}
 use Rattle.program_order.specs.Reached.{GoesOn, GoesOnByWork, IsReached, without_seats}
 use Rattle.program_order.specs.Run.{IsAnswer, IsAnswered, IsRun, answer_by, answer_of, done_by, settled, settled_all}
@@ -29,15 +27,8 @@ boot_reached memory budget w e = record { answered = tt; left = ap (λ x. withou
 
 pub goes_on : (w v : Processor) (more : List Event) (given : List (Result Done Refusal)) → IsAnswered w more given
     → v ≡ settled_all w more given → GoesOn w more given v
-goes_on w v more given h e memory budget events answers r = record {
-  answered = answered_append (boot_processor memory budget) events more answers given r.answered
-      (subst (λ x. IsAnswered x more given) r.left (seated_answers false w more given h));
-  left =
-      ap (λ x. without_seats x) e
-      ∙ sym (same_run false w more given)
-      ∙ ap (λ x. settled_all x more given) r.left
-      ∙ settled_append (boot_processor memory budget) events more answers given r.answered;
-}
+goes_on w v more given h e memory budget events answers r =
+    grind (arith, answered_append, seated_answers, same_run, settled_append)
 
 pub event_goes_on : (w v : Processor) (e : Event) (a : Result Done Refusal) → IsAnswer w e a → v ≡ settled w e a
     → GoesOn w (e ∷ []) (a ∷ []) v
@@ -46,17 +37,7 @@ event_goes_on w v e a h k = goes_on w v (e ∷ []) (a ∷ []) (h, tt) k
 
 work_done : (w : Processor) (e : Event) → is_work e ≡ true → done_by w e ≡ Made
 unfolding is_work done_by
-work_done w Issue h = cc
-work_done w (Read u) h = refl
-work_done w (Finish u) h = refl
-work_done w (StoreResult u) h = refl
-work_done w (Accept p) h = refl
-work_done w (Return c) h = refl
-work_done w (BankFree k) h = refl
-work_done w (Ask n) h = cc
-work_done w Exchange h = cc
-work_done w (PpRead a) h = cc
-work_done w (PpWrite a v) h = cc
+work_done w e h = grind arith
 
 -- an allowed event that serves a pending instruction answers `Made`
 work_answer : (w : Processor) (e : Event) → is_work e ≡ true → allowed w e ≡ None → IsAnswer w e (Ok Made)
@@ -90,23 +71,19 @@ accepted_leads w (e ∷ es) = accepted_leads (after w e) es
 pub works_go_on : (w v : Processor) (n : ℕ) → Works w v n → GoesOnByWork w n v
 works_go_on w v n k memory budget events answers r =
     let leads = k.leads in
-    record {
-      more = k.events;
-      work = subst (λ x. Accepts x k.events) r.left (seated_accepts false w k.events k.accepted);
-      counted = k.counted;
-      reached =
-          subst (λ m. IsReached memory budget (events ++ k.events) (answers ++ replicate m (Ok Made)) v) k.counted
-          (goes_on w v k.events (replicate (length k.events) (Ok Made)) (accepted_answers w k.events k.accepted)
-          (leads ∙ accepted_leads w k.events) memory budget events answers r);
-    }
+    grind (
+      arith,
+      seated_accepts false w k.events k.accepted,
+      goes_on w v k.events (replicate (length k.events) (Ok Made)) (accepted_answers w k.events k.accepted) (leads ∙ accepted_leads w k.events) memory budget events answers r,
+      accepted_answers w k.events k.accepted,
+      accepted_leads w k.events,
+    )
 
 -- ---- one call after another ----
 
 pub goes_on_then : (w x v : Processor) (es fs : List Event) (given more : List (Result Done Refusal))
     → GoesOn w es given x → GoesOn x fs more v → GoesOn w (es ++ fs) (given ++ more) v
-goes_on_then w x v es fs given more g h memory budget events answers r =
-    subst₂ (λ ys zs. IsReached memory budget ys zs v) (append_assoc events es fs) (append_assoc answers given more)
-    (h memory budget (events ++ es) (answers ++ given) (g memory budget events answers r))
+goes_on_then w x v es fs given more g h memory budget events answers r = grind (arith, append_assoc)
 
 -- ---- what was reached with the fault set ----
 
@@ -118,8 +95,4 @@ fault_reached memory budget events more answers given w v r f s n =
     let first = settled_all (boot_processor memory budget) events answers in
     let k = fault_run first more given (ap (λ (x : Processor). x.state.fault) (sym r.left) ∙ f)
     (answered_rest (boot_processor memory budget) events more answers given r.answered s.answered) n in
-    let l : without_seats v ≡ settled_all first more given =
-    s.left ∙ sym (settled_append (boot_processor memory budget) events more answers given r.answered) in (
-      subst₂ GainsAccesses (ap (λ (x : Processor). x.log) (sym r.left)) (ap (λ (x : Processor). x.log) (sym l)) k.0,
-      ap (λ (x : Processor). x.state.fault) l ∙ k.1,
-    )
+    grind (arith, settled_append)

@@ -7,8 +7,6 @@ use Rattle.std.specs.Prelude.{Result, Ok}
 use Rattle.instructions.specs.declared.refusal.Refusal.{Refusal}
 use Rattle.program_order.specs.declared.event.Done.{Done}
 use Rattle.program_order.specs.declared.event.Event.{Event}
-use Rattle.program_order.specs.declared.event.Event.TheVariants.{Issue, Read, Finish, Store as StoreResult, Accept}
-use Rattle.program_order.specs.declared.event.Event.TheVariants.{Return, BankFree, Ask, Exchange, PpRead, PpWrite}
 use Rattle.program_order.specs.Run.{answer_by, done_by, answer_of, makes_room, IsAnswer, IsRun, settled, IsAnswered}
 use Rattle.program_order.specs.Run.{settled_all}
 use Rattle.program_order.specs.Processor.{Processor}
@@ -78,8 +76,7 @@ running_more w v x events i d a old now new r l k s n =
       given = r.given ++ a ∷ [];
       added = n ∙ ap (λ z. z ++ a ∷ []) r.added ∙ append_assoc old r.given (a ∷ []);
       answered = subst (λ es. IsAnswered w es (r.given ++ a ∷ [])) (sym (take_next events i d l))
-          (answered_append w (take i events) (get_or events i d ∷ []) r.given (a ∷ []) r.answered
-          (subst (λ y. IsAnswer y (get_or events i d) a) left k, tt));
+          (grind (arith, answered_append));
       left = s ∙ ap (λ y. settled y (get_or events i d) a) left
           ∙ settled_append w (take i events) (get_or events i d ∷ []) r.given (a ∷ []) r.answered
           ∙ ap (λ es. settled_all w es (r.given ++ a ∷ [])) (sym (take_next events i d l));
@@ -87,14 +84,7 @@ running_more w v x events i d a old now new r l k s n =
 
 pub run_done : (w v : Processor) (events : List Event) (i : ℕ) (old new : List (Result Done Refusal))
     → length events ≤ i → Running w v (take i events) old new → IsRun w v events old new
-run_done w v events i old new l r =
-    let e = take_all i events l in
-    record {
-      given = r.given;
-      added = r.added;
-      answered = subst (λ es. IsAnswered w es r.given) e r.answered;
-      left = r.left ∙ ap (λ es. settled_all w es r.given) e;
-    }
+run_done w v events i old new l r = grind (arith, take_all)
 
 -- ---- a drain ----
 
@@ -119,17 +109,7 @@ works_more : (w v x : Processor) (n : ℕ) (e : Event) (d : Done) (a : Result Do
 unfolding settled
 works_more w v x n e d a k l o h s i =
     let none : allowed v e ≡ None = made_allowed v e d (subst (λ y. IsAnswer v e y) o h) in
-    let leads = k.leads in
-    let count = k.counted in
-    let more = length-append k.events (e ∷ []) in
-    record {
-      events = k.events ++ e ∷ [];
-      accepted = accepts_more w k.events e k.accepted (ap (λ y. allowed y e) (sym leads) ∙ none)
-          (subst (λ (y : Processor). works_on y.pending e ≡ true) leads i);
-      leads = s ∙ ap (settled v e) o ∙ ap (λ y. after y e) leads ∙ leads_more w k.events e;
-      counted = omega (arith, count, more);
-      limit = omega (arith, l);
-    }
+    let leads = k.leads in grind (arith, accepts_more, leads_more, length-append)
 
 -- this many events were made, and the remaining work fits the rest of the forty
 pub record Draining (w v : Processor) (made : ℕ) : Type 0 where
@@ -150,17 +130,7 @@ some_event o e v h k = sym h ∙ k
 
 no_growth : (e : Event) → is_work e ≡ true → makes_room e ≡ true → ⊥
 unfolding is_work makes_room
-no_growth Issue h k = cc
-no_growth (Read u) h k = cc
-no_growth (Finish u) h k = cc
-no_growth (StoreResult u) h k = cc
-no_growth (Accept p) h k = cc
-no_growth (Return n) h k = cc
-no_growth (BankFree b) h k = cc
-no_growth (Ask n) h k = cc
-no_growth Exchange h k = cc
-no_growth (PpRead a) h k = cc
-no_growth (PpWrite a v) h k = cc
+no_growth e h k = grind arith
 
 -- an allowed event that serves a pending instruction is made
 surely_made : (v : Processor) (e : Event) (a : Result Done Refusal) → allowed v e ≡ None → is_work e ≡ true
@@ -176,11 +146,7 @@ unfolding settled
 draining_more w v x n o e a k l b h oh oe s i =
     let next = some_event o e v oh oe in
     let work = next_works_on v.pending v.busy e next in
-    let made = surely_made v e a h (on_pending v.pending e work) s in
-    record {
-      works = works_more w v x n e (done_by v e) a k.works l made s i work;
-      left = λ _. eased v x n k.left b (subst (Eases v) (sym (i ∙ ap (settled v e) made)) (next_eases v e next));
-    }
+    let made = surely_made v e a h (on_pending v.pending e work) s in search (arith, works_more, eased, next_eases)
 
 -- there is no next event
 pub nothing_left : (v : Processor) (o : Option Event) → o ≡ next_of v.pending v.busy → o ≡ None
@@ -189,9 +155,7 @@ nothing_left v o h k = nothing_next v.pending v.busy (sym h ∙ k)
 
 -- forty events were made
 pub forty_made : (w v : Processor) (n : ℕ) → Draining w v n → 40 ≤ n → is_pending v.pending ≡ false
-forty_made w v n d l =
-    let k : n + work_left v.pending ≤ 40 + saved_of v.pending v.busy = d.left (omega (arith, l)) in
-    all_done v.pending v.busy (omega (arith, k, l))
+forty_made w v n d l = grind (arith, saved_of, all_done)
 
 pub forty_works : (w v : Processor) (n : ℕ) → Draining w v n → 40 ≤ n → Works w v 40
 forty_works w v n d l =

@@ -1,19 +1,15 @@
 -- Handing out the seats changes neither an answer nor an event's effect.
-use Rattle.std.proofs.Common.{◌≡◌, ℕ, Bool, List, [], ◌∷◌, Option, Some, None, refl, sym, ap, ◌∙◌, subst, inl, inr}
+use Rattle.std.proofs.Common.{arith}
+use Rattle.std.proofs.Common.{◌≡◌, ℕ, Bool, List, [], ◌∷◌, Option, Some, None, refl, ap, ◌∙◌}
 use Rattle.std.specs.Prelude.{Result, Ok, Err}
 use Rattle.instructions.specs.declared.refusal.Refusal.{Refusal}
 use Rattle.relocation.specs.declared.area.Access.{Access}
 use Rattle.relocation.specs.declared.area.Access.TheVariants.{Load as LoadInto, Store as StoreWord}
 use Rattle.sequential.specs.declared.fetching.Fetched.{Fetched}
-use Rattle.sequential.specs.declared.fetching.Fetched.TheVariants.{Halting, Passing, Taking}
 use Rattle.in_flight.specs.declared.pending.Pending.{Pending}
 use Rattle.program_order.specs.declared.event.Done.{Done}
-use Rattle.program_order.specs.declared.event.Done.TheVariants.{Issued as DoneIssue}
 use Rattle.program_order.specs.declared.event.Event.{Event}
-use Rattle.program_order.specs.declared.event.Event.TheVariants.{Issue, Read, Finish, Store, Accept, Return, BankFree}
-use Rattle.program_order.specs.declared.event.Event.TheVariants.{Ask, Exchange, PpRead, PpWrite}
 use Rattle.in_flight.specs.declared.pending.Stage.{Stage}
-use Rattle.in_flight.specs.declared.pending.Stage.TheVariants.{Unread, Read as HasRead, Finished}
 use Rattle.hopper.specs.declared.reference.Reference.{Reference}
 use Rattle.program_order.specs.Run.{IsAnswer, IsAnswered, answer_by, answer_of, done_by, note_by, settled, settled_all}
 use Rattle.instructions.specs.Finding.{Found}
@@ -32,37 +28,15 @@ seated b w = record w { seats_given = b }
 
 same_note : (b : Bool) (w : Processor) (f : Fetched) → note_by (seated b w) f ≡ note_by w f
 unfolding note_by
-same_note b w (Halting h place) = refl
-same_note b w (Passing place) = refl
-same_note b w (Taking i place) = refl
+same_note b w f = grind arith
 
 same_done : (b : Bool) (w : Processor) (e : Event) → done_by (seated b w) e ≡ done_by w e
 unfolding done_by word_read
-same_done b w Issue = ap DoneIssue (same_note b w _)
-same_done b w (Read u) = refl
-same_done b w (Finish u) = refl
-same_done b w (Store u) = refl
-same_done b w (Accept p) = refl
-same_done b w (Return c) = refl
-same_done b w (BankFree k) = refl
-same_done b w (Ask n) = refl
-same_done b w Exchange = refl
-same_done b w (PpRead a) = refl
-same_done b w (PpWrite a v) = refl
+same_done b w e = grind (arith, same_note)
 
 same_allowed : (b : Bool) (w : Processor) (e : Event) → allowed (seated b w) e ≡ allowed w e
 unfolding allowed tests_of
-same_allowed b w Issue = refl
-same_allowed b w (Read u) = refl
-same_allowed b w (Finish u) = refl
-same_allowed b w (Store u) = refl
-same_allowed b w (Accept p) = refl
-same_allowed b w (Return c) = refl
-same_allowed b w (BankFree k) = refl
-same_allowed b w (Ask n) = refl
-same_allowed b w Exchange = refl
-same_allowed b w (PpRead a) = refl
-same_allowed b w (PpWrite a v) = refl
+same_allowed b w e = grind arith
 
 same_answer : (b : Bool) (w : Processor) (e : Event) → answer_of (seated b w) e ≡ answer_of w e
 unfolding answer_of
@@ -71,9 +45,7 @@ same_answer b w e =
 
 issue_after : (b : Bool) (w : Processor) (f : Fetched) → after_issue (seated b w) f ≡ seated b (after_issue w f)
 unfolding after_issue
-issue_after b w (Halting h place) = refl
-issue_after b w (Passing place) = refl
-issue_after b w (Taking i place) = refl
+issue_after b w f = grind arith
 
 -- the effect on the found instruction
 found_after : {K : Type 0} (b : Bool) (w : Processor) (o : Option (Found Pending K))
@@ -86,9 +58,7 @@ found_after b w (Some x) f g h = h x
 store_after : (b : Bool) (w : Processor) (f : Found Pending Stage) (t : Stage)
     → after_store (seated b w) f t ≡ seated b (after_store w f t)
 unfolding after_store after_work
-store_after b w f Unread = refl
-store_after b w f (HasRead os) = refl
-store_after b w f (Finished v) = refl
+store_after b w f t = grind arith
 
 accept_after : (b : Bool) (w : Processor) (f : Found Pending Reference) (a : ℕ) (access : Access)
     → after_accept (seated b w) f a access ≡ seated b (after_accept w f a access)
@@ -104,17 +74,7 @@ exchange_after b w (Some n) = refl
 
 same_after : (b : Bool) (w : Processor) (e : Event) → after (seated b w) e ≡ seated b (after w e)
 unfolding after after_read after_finish after_return after_pp_read after_pp_write
-same_after b w Issue = issue_after b w _
-same_after b w (Read u) = found_after b w _ _ _ (λ x. refl)
-same_after b w (Finish u) = found_after b w _ _ _ (λ x. refl)
-same_after b w (Store u) = found_after b w _ _ _ (λ x. store_after b w x x.answer)
-same_after b w (Accept p) = found_after b w _ _ _ (λ x. accept_after b w x x.answer.address x.answer.access)
-same_after b w (Return c) = found_after b w _ _ _ (λ x. refl)
-same_after b w (BankFree k) = refl
-same_after b w (Ask n) = refl
-same_after b w Exchange = exchange_after b w w.request
-same_after b w (PpRead a) = refl
-same_after b w (PpWrite a v) = refl
+same_after b w e = grind (arith, issue_after, found_after, store_after, accept_after, exchange_after)
 
 same_settled : (b : Bool) (w : Processor) (e : Event) (a : Result Done Refusal)
     → settled (seated b w) e a ≡ seated b (settled w e a)
@@ -133,25 +93,16 @@ same_run b w (e ∷ events) (a ∷ answers) =
 -- a possible answer is possible whether or not the seats were handed out
 seated_answer : (b : Bool) (w : Processor) (e : Event) (a : Result Done Refusal) → IsAnswer w e a
     → IsAnswer (seated b w) e a
-seated_answer b w e a (inl h) = inl (h ∙ sym (same_answer b w e))
-seated_answer b w e a (inr r) =
-    inr (record { want = r.want; growing = r.growing; otherwise_allowed = same_allowed b w e ∙ r.otherwise_allowed })
+seated_answer b w e a h = grind (arith, same_answer, same_allowed)
 
 pub seated_answers : (b : Bool) (w : Processor) (events : List Event) (answers : List (Result Done Refusal))
     → IsAnswered w events answers → IsAnswered (seated b w) events answers
 seated_answers b w [] [] h = h
 seated_answers b w [] (a ∷ answers) h = h
 seated_answers b w (e ∷ events) [] h = h
-seated_answers b w (e ∷ events) (a ∷ answers) h = (
-  seated_answer b w e a h.0,
-  subst (λ x. IsAnswered x events answers) (sym (same_settled b w e a))
-      (seated_answers b (settled w e a) events answers h.1),
-)
+seated_answers b w (e ∷ events) (a ∷ answers) h =
+    search (arith, seated_answers b (settled w e a) events answers h.1, seated_answer, same_settled)
 
 pub seated_accepts : (b : Bool) (w : Processor) (es : List Event) → Accepts w es → Accepts (seated b w) es
 seated_accepts b w [] h = tt
-seated_accepts b w (e ∷ es) h = (
-  same_allowed b w e ∙ h.0,
-  h.1,
-  subst (λ x. Accepts x es) (sym (same_after b w e)) (seated_accepts b (after w e) es h.2),
-)
+seated_accepts b w (e ∷ es) h = grind (arith, seated_accepts b (after w e) es h.2, same_allowed, same_after)

@@ -1,4 +1,5 @@
 -- Facts about the earlier instructions that follow from an event's tests and from the instructions being apart.
+use Rattle.std.proofs.Common.{arith}
 use Rattle.scoreboard.specs.Conflicts as conflict
 use Rattle.scoreboard.specs.Reservations as board
 use Rattle.in_flight.specs.Pending.{occupancy_of, reservation_of, awaited, entered_in, has_turn, holds_back}
@@ -6,7 +7,7 @@ use Rattle.in_flight.specs.Pending.{holds_back_in, is_branch, is_entered, to_be_
 use Rattle.in_flight.proofs.asking.PendingReservations.{comes, reads_it}
 use Rattle.in_flight.proofs.asking.Phases.{before_and, may_store, may_store_in, target_of, to_come_in}
 use Rattle.scoreboard.specs.Reservations.{is_reserved}
-use Rattle.std.proofs.Common.{◌≡◌, ℕ, Bool, true, false, List, [], ◌∷◌, ◌++◌, Option, Some, None, refl, sym, ap, ◌∙◌}
+use Rattle.std.proofs.Common.{◌≡◌, ℕ, Bool, true, false, List, [], ◌∷◌, ◌++◌, Some, refl, sym, ap, ◌∙◌}
 use Rattle.std.specs.Prelude.{◌&&◌}
 use Rattle.std.proofs.lemmas.Bool.{or_parts}
 use Rattle.std.specs.List.{list_any}
@@ -18,9 +19,8 @@ use Rattle.program_order.proofs.effects.OnePending.{touches_in, touches}
 use Rattle.program_order.proofs.effects.Completing.{IsFree, IsNoBranch}
 use Rattle.hopper.specs.Hopper.{is_store, keep_order}
 use Rattle.instructions.specs.RegisterLists.{is_in, overlap}
-use Rattle.instructions.specs.Shape.{Jumps, Links, Loads, Sets, Shape, Stores, has_reference, has_store}
-use Rattle.instructions.specs.Shape.{is_branch_shape, loads_of, sets_of, results, shape_of}
-use Rattle.instructions.specs.Operands.{reg_eq}
+use Rattle.instructions.specs.Shape.{Shape, has_reference, has_store}
+use Rattle.instructions.specs.Shape.{loads_of, sets_of, results, shape_of}
 use Rattle.instructions.specs.declared.instr.Reg.{Reg}
 use Rattle.instructions.specs.declared.instr.Reg.TheVariants.{X}
 use Rattle.instructions.specs.Each.{Each, Pairs}
@@ -38,7 +38,6 @@ use Rattle.relocation.specs.declared.area.Access.{Access}
 use Rattle.relocation.specs.declared.area.Access.TheVariants.{Load as LoadInto, Store as StoreWord}
 use Rattle.sequential.specs.State.{Bounds}
 use Rattle.sequential.specs.Work.{reference_for}
-use Rattle.sequential.specs.declared.work.ProgramReference.{ProgramReference}
 use Rattle.unit_ops.specs.declared.UnitValue.{UnitValue}
 
 -- ---- reservations and columns ----
@@ -47,7 +46,7 @@ pub each_swap : {P Q : Type 0} (R : P → Q → Type 0) (ps : List P) (qs : List
     → Each (λ q. Each (λ p. R p q) ps) qs
 each_swap R ps [] h = tt
 each_swap R ps (q ∷ qs) h = (
-  each_map (λ p. Each (R p) (q ∷ qs)) (λ p. R p q) (λ p k. k.0) ps h,
+  grind (arith, each_map),
   each_swap R ps qs (each_map (λ p. Each (R p) (q ∷ qs)) (λ p. Each (R p) qs) (λ p k. k.1) ps h),
 )
 
@@ -97,13 +96,10 @@ free_to_put es m t e apart h =
     let rs = sets_of (shape_of m.instr) in
     let cols : Each (λ r. Each (λ e. is_in (to_come e) r ≡ false) es) rs =
     each_swap (λ e r. is_in (to_come e) r ≡ false) es rs
-    (each_map (λ e. IsApart e m) (λ e. Each (λ r. is_in (to_come e) r ≡ false) rs)
-    (λ y a. results_free (shape_of m.instr) (to_come y)
-    (ap (λ l. overlap l (to_come y)) (sym (to_come_is m (Before t) e)) ∙ a.disjoint)) es apart) in
+    (grind (arith, each_map, results_free, to_come_is)) in
     each_both (λ r. Each (λ e. is_in (to_come e) r ≡ false) es) (λ r. Each (λ e. reads_it r e ≡ false) es)
     (λ r. Each (IsFree r) es)
-    (λ r p q. each_both (λ e. is_in (to_come e) r ≡ false) (λ e. reads_it r e ≡ false) (IsFree r)
-    (λ y i j. record { not_to_come = i; not_read = j }) es p q)
+    (λ r p q. grind (arith, each_both, reads_it))
     rs cols (none_reads es rs h)
 
 -- the earlier instructions leave the register of a load in its channel alone
@@ -123,43 +119,29 @@ free_to_return es m c w e apart h =
 
 touches-from : (f : Bool) (a : ℕ) (p : Phase) → before_and f p ≡ false → waits_in a p ≡ false → touches_in f a p ≡ false
 unfolding before_and waits_in touches_in later_touches is_reserved occupancy_of
-touches-from f a (Before t) h k = h
-touches-from f a (After (Entered slot x access)) h k = k
-touches-from f a (After (Accepted n w)) h k = refl
+touches-from f a p h k = grind arith
 
 -- a store keeps its order with every reference to its address, so a reference that doesn't hold it back has another
 -- address
 touches-unless-held : (f : Bool) (a v : ℕ) (p : Phase) → before_and f p ≡ false
     → holds_back_in a (StoreWord v) p ≡ false → touches_in f a p ≡ false
 unfolding before_and holds_back_in keep_order is_store touches_in later_touches is_reserved occupancy_of
-touches-unless-held f a v (Before t) h k = h
-touches-unless-held f a v (After (Entered slot x access)) h k = k
-touches-unless-held f a v (After (Accepted n w)) h k = refl
+touches-unless-held f a v p h k = grind arith
 
 store_from_reference : (h : Shape) → has_reference h ≡ false → has_store h ≡ false
 unfolding has_reference has_store
-store_from_reference (Sets rs) e = refl
-store_from_reference (Loads n) e = refl
-store_from_reference (Stores n) e = e
-store_from_reference Jumps e = refl
-store_from_reference Links e = e
+store_from_reference h e = grind arith
 
 may_store-from : (h : Shape) (a : ℕ) (p : Phase) → before_and (has_reference h) p ≡ false → waits_in a p ≡ false
     → may_store_in (has_store h) a p ≡ false
 unfolding before_and waits_in may_store_in is_reserved occupancy_of
-may_store-from h a (Before t) i k = store_from_reference h i
-may_store-from h a (After (Entered slot x (LoadInto n))) i k = refl
-may_store-from h a (After (Entered slot x (StoreWord w))) i k = k
-may_store-from h a (After (Accepted n w)) i k = refl
+may_store-from h a p i k = grind (arith, store_from_reference)
 
 -- a load keeps its order with stores to its address; two loads of one address may be made in either order
 may_store-unless-held : (h : Shape) (a n : ℕ) (p : Phase) → before_and (has_reference h) p ≡ false
     → holds_back_in a (LoadInto n) p ≡ false → may_store_in (has_store h) a p ≡ false
 unfolding before_and holds_back_in keep_order is_store may_store_in is_reserved occupancy_of
-may_store-unless-held h a n (Before t) i k = store_from_reference h i
-may_store-unless-held h a n (After (Entered slot x (LoadInto m))) i k = refl
-may_store-unless-held h a n (After (Entered slot x (StoreWord w))) i k = k
-may_store-unless-held h a n (After (Accepted m w)) i k = refl
+may_store-unless-held h a n p i k = grind (arith, store_from_reference)
 
 and_true : (f : Bool) → (true && f) ≡ false → f ≡ false
 and_true f h = h
@@ -168,9 +150,7 @@ and_true f h = h
 pub turns_past : (es : List Pending) (m : Pending) (slot a : ℕ) (access : Access)
     → m.phase ≡ After (Entered slot a access) → Each (λ e. IsApart e m) es → Each (λ e. has_turn e ≡ false) es
 unfolding is_entered entered_in
-turns_past es m slot a access e apart =
-    each_map (λ y. IsApart y m) (λ y. has_turn y ≡ false)
-    (λ y k. and_true (has_turn y) (ap (λ p. entered_in p && has_turn y) (sym e) ∙ k.in_turn)) es apart
+turns_past es m slot a access e apart = grind (arith, each_map, and_true)
 
 pub untouched : (es : List Pending) (a v : ℕ) → Each (λ e. has_turn e ≡ false) es
     → list_any (holds_back a (StoreWord v)) es ≡ false → Each (λ e. touches a e ≡ false) es
@@ -230,13 +210,7 @@ and_less true x y g h = g h
 and_less false x y g h = refl
 
 apart_of_less : (m' m l : Pending) → IsLess m' m → IsApart m l → IsApart m' l
-apart_of_less m' m l k a = record {
-  disjoint = each_disjoint (to_come l) (to_come m')
-      (each_map (λ r. is_in (to_come m) r ≡ false) (λ r. is_in (to_come m') r ≡ false) k.in_less (to_come l)
-      (disjoint_each (to_come l) (to_come m) a.disjoint));
-  in_turn = and_less (is_entered l) (has_turn m') (has_turn m) k.turn_less a.in_turn;
-  no_branch = k.branch_less a.no_branch;
-}
+apart_of_less m' m l k a = grind (arith, each_disjoint, each_map, disjoint_each, and_less)
 
 apart_to_less : (e m' m : Pending) → IsLess m' m → (is_entered m' && has_turn e) ≡ false → IsApart e m → IsApart e m'
 apart_to_less e m' m k t a =
@@ -246,59 +220,30 @@ apart_to_less e m' m k t a =
 pub pairs_less : (es : List Pending) (m' m : Pending) (ls : List Pending) → IsLess m' m
     → Each (λ e. (is_entered m' && has_turn e) ≡ false) es → Pairs IsApart (es ++ m ∷ ls)
     → Pairs IsApart (es ++ m' ∷ ls)
-pairs_less es m' m ls k t h =
-    pairs_with IsApart es m m' ls h
-    (each_both (λ e. IsApart e m) (λ e. (is_entered m' && has_turn e) ≡ false) (λ e. IsApart e m')
-    (λ e a i. apart_to_less e m' m k i a) es (pairs_before IsApart es m ls h) t)
-    (λ l a. apart_of_less m' m l k a)
+pairs_less es m' m ls k t h = search (arith, pairs_with, each_both, apart_to_less, pairs_before, apart_of_less)
 
 pub less_before : (m : Pending) (t u : Stage) → m.phase ≡ Before t → IsLess (in_phase m (Before u)) m
 unfolding results_to_come turns_and_branches
-less_before m t u e = record {
-  comes_less = λ ts h. ap (λ p. overlap (to_come_in (shape_of m.instr) p) ts) (sym e) ∙ h;
-  in_less = λ r h. ap (λ p. is_in (to_come_in (shape_of m.instr) p) r) (sym e) ∙ h;
-  turn_less = λ h. ap (before_and (has_reference (shape_of m.instr))) (sym e) ∙ h;
-  branch_less = λ h. ap (before_and (is_branch_shape (shape_of m.instr))) (sym e) ∙ h;
-}
+less_before m t u e = grind arith
 
 pub less_after : (m : Pending) (t : Stage) (l : Outstanding) → m.phase ≡ Before t
     → target_of l ≡ loads_of (shape_of m.instr) → IsLess (in_phase m (After l)) m
 unfolding results_to_come turns_and_branches target_of overlap is_in results
-less_after m t l e f = record {
-  comes_less = λ ts h. ap (λ rs. overlap rs ts) f
-      ∙ results_still (shape_of m.instr) ts (ap (λ p. overlap (to_come_in (shape_of m.instr) p) ts) (sym e) ∙ h);
-  in_less = λ r h. ap (λ rs. is_in rs r) f
-      ∙ any_right (reg_eq r) (sets_of (shape_of m.instr)) (loads_of (shape_of m.instr))
-      (ap (λ p. is_in (to_come_in (shape_of m.instr) p) r) (sym e) ∙ h);
-  turn_less = λ h. refl;
-  branch_less = λ h. refl;
-}
+less_after m t l e f = grind (arith, results_still, to_come_in, any_right)
 
 pub less_accepted : (m : Pending) (slot a n w : ℕ) → m.phase ≡ After (Entered slot a (LoadInto n))
     → IsLess (in_phase m (After (Accepted n w))) m
 unfolding results_to_come turns_and_branches target_of
-less_accepted m slot a n w e = record {
-  comes_less = λ ts h. ap (λ p. overlap (to_come_in (shape_of m.instr) p) ts) (sym e) ∙ h;
-  in_less = λ r h. ap (λ p. is_in (to_come_in (shape_of m.instr) p) r) (sym e) ∙ h;
-  turn_less = λ h. refl;
-  branch_less = λ h. refl;
-}
+less_accepted m slot a n w e = grind arith
 
 -- a reservation with a reference outstanding after its store event has a reference
 left_has_reference : (b : Bounds) (slot : ℕ) (h : Shape) (v : UnitValue) (l : Outstanding) (f : Bool)
     → has_reference h ≡ f → rest_of b slot (reference_for h v) ≡ Some l → f ≡ true
 unfolding relocated outstanding_of
-left_has_reference b slot h v l true e k = refl
-left_has_reference b slot h v l false e k = none_left (reference_for h v) (no_reference h v e) k
-  where
-    none_left : (r : Option ProgramReference) → r ≡ None → rest_of b slot r ≡ Some l → false ≡ true
-    none_left None i j = cc
-    none_left (Some r) i j = cc
+left_has_reference b slot h v l f e k = grind (arith, no_reference)
 
 -- at a store event in turn, the earlier references have had theirs
 pub turns_at_store : (b : Bounds) (slot : ℕ) (h : Shape) (v : UnitValue) (l : Outstanding) (es : List Pending)
     → rest_of b slot (reference_for h v) ≡ Some l → (has_reference h && list_any has_turn es) ≡ false
     → Each (λ e. has_turn e ≡ false) es
-turns_at_store b slot h v l es k t =
-    let e = left_has_reference b slot h v l (has_reference h) refl k in
-    each_of_any has_turn (λ y. has_turn y ≡ false) (λ y i. i) es (ap (λ f. f && list_any has_turn es) (sym e) ∙ t)
+turns_at_store b slot h v l es k t = grind (arith, left_has_reference, each_of_any)

@@ -1,6 +1,6 @@
 -- One event on a list that is split at the instruction of the event, over plain variables: the pending instructions
 -- stay apart, and completing them gives the same state.
-use Rattle.std.proofs.Common.{◌≡◌, ℕ, false, List, [], ◌∷◌, ◌++◌, Option, Some, None, refl, sym, ap, ◌∙◌, get_or}
+use Rattle.std.proofs.Common.{◌≡◌, ℕ, false, List, [], ◌∷◌, ◌++◌, Option, Some, None, refl, sym, ap, ◌∙◌, get_or, arith}
 use Rattle.std.specs.Prelude.{◌&&◌}
 use Rattle.std.proofs.lemmas.Bool.{and_right}
 use Rattle.std.specs.List.{list_any}
@@ -32,7 +32,6 @@ use Rattle.in_flight.specs.declared.pending.Pending.{Pending}
 use Rattle.in_flight.specs.declared.pending.Phase.TheVariants.{After, Before}
 use Rattle.in_flight.specs.declared.pending.Stage.{Stage}
 use Rattle.in_flight.specs.declared.pending.Stage.TheVariants.{Finished}
-use Rattle.registers.specs.Registers.{get}
 use Rattle.relocation.specs.declared.area.Access.TheVariants.{Load as LoadInto, Store as StoreWord}
 use Rattle.sequential.specs.State.{Bounds, store_word, write}
 use Rattle.sequential.specs.Work.{write_and_jump, reference_for, work_of}
@@ -56,11 +55,17 @@ unfolding is_entered entered_in in_phase complete
 read_event b s es m ls t e h apart = record {
   apart = pairs_less es (in_phase m (Before (stage_after_read s.registers m.instr m.at t))) m ls (less_before m t _ e)
       (not_entered es (in_phase m (Before (stage_after_read s.registers m.instr m.at t))) refl) apart;
-  same = complete-put_back b s s es ((in_phase m (Before (stage_after_read s.registers m.instr m.at t))) ∷ []) m ls
-      (finish_effects-read b (complete b s es) m t s.registers e
-      (operands-agree m.instr m.at s.registers (complete b s es).registers
-      (each_map (λ r. Each (λ y. comes r y ≡ false) es) (λ r. get s.registers r ≡ get (complete b s es).registers r)
-      (λ r k. sym (complete-get b s es r k)) (sources_of m.instr) (not_awaited es (sources_of m.instr) h))));
+  same =
+      search (
+        arith,
+        complete-put_back,
+        finish_effects-read,
+        operands-agree,
+        each_map,
+        comes,
+        complete-get,
+        not_awaited,
+      );
 }
 
 pub finish_event : (b : Bounds) (s : State) (es : List Pending) (m : Pending) (ls : List Pending) (t : Stage)
@@ -70,8 +75,7 @@ unfolding is_entered entered_in in_phase complete
 finish_event b s es m ls t e apart = record {
   apart = pairs_less es (in_phase m (Before (stage_after_finish m.instr t))) m ls (less_before m t _ e)
       (not_entered es (in_phase m (Before (stage_after_finish m.instr t))) refl) apart;
-  same = complete-put_back b s s es ((in_phase m (Before (stage_after_finish m.instr t))) ∷ []) m ls
-      (finish_effects-finish b (complete b s es) m t e);
+  same = search (arith, complete-put_back, finish_effects-finish);
 }
 
 kept_apart : (es : List Pending) (m : Pending) (ls : List Pending) (t : Stage) (b : Bounds) (slot : ℕ) (v : UnitValue)
@@ -111,13 +115,14 @@ pub accept_load_event : (b : Bounds) (s : State) (es : List Pending) (m : Pendin
 unfolding is_entered entered_in in_phase complete
 accept_load_event b s es m ls slot a n e first apart =
     let turns = turns_past es m slot a _ e (pairs_before IsApart es m ls apart) in
-    record {
-      apart = pairs_less es (in_phase m (After (Accepted n (get_or s.memory a 0)))) m ls (less_accepted m slot a n _ e)
-          (not_entered es (in_phase m (After (Accepted n (get_or s.memory a 0)))) refl) apart;
-      same = complete-put_back b s s es ((in_phase m (After (Accepted n (get_or s.memory a 0)))) ∷ []) m ls
-          (finish_effects-accept_load b (complete b s es) m slot a n _ e
-          (sym (complete-word b s es a (unstored es a n turns first))));
-    }
+    grind (
+      arith,
+      pairs_less es (in_phase m (After (Accepted n (get_or s.memory a 0)))) m ls (less_accepted m slot a n _ e) (not_entered es (in_phase m (After (Accepted n (get_or s.memory a 0)))) refl) apart,
+      not_entered es (in_phase m (After (Accepted n (get_or s.memory a 0)))) refl,
+      complete-put_back b s s es ((in_phase m (After (Accepted n (get_or s.memory a 0)))) ∷ []) m ls (finish_effects-accept_load b (complete b s es) m slot a n _ e (sym (complete-word b s es a (unstored es a n turns first)))),
+      complete-word b s es a (unstored es a n turns first),
+      unstored es a n turns first,
+    )
 
 pub accept_store_event : (b : Bounds) (s : State) (es : List Pending) (m : Pending) (ls : List Pending) (slot a v : ℕ)
     → m.phase ≡ After (Entered slot a (StoreWord v)) → list_any (holds_back a (StoreWord v)) es ≡ false
@@ -127,8 +132,7 @@ accept_store_event b s es m ls slot a v e first apart =
     record {
       apart = pairs_without IsApart es m ls apart;
       same = complete-put_back b s (store_word s a v) es [] m ls
-          (ap (λ x. complete b x []) (complete-store_word b s es a v (untouched es a v turns first))
-          ∙ finish_effects-accept_store b (complete b s es) m slot a v e);
+          (grind (arith, complete-store_word, untouched, finish_effects-accept_store));
     }
 
 pub return_event : (b : Bounds) (s : State) (es : List Pending) (m : Pending) (ls : List Pending) (c v : ℕ)

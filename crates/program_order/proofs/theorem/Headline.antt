@@ -2,10 +2,9 @@
 -- instruction.
 use Rattle.std.specs.Prelude.{option_and_then}
 use Rattle.sequential.specs.Position.{after_jump}
-use Rattle.std.proofs.Common.{◌≡◌, ℕ, Bool, true, false, ◌||◌, List, [], ◌∷◌, ◌++◌, Option, Some, None, cond, refl, sym}
-use Rattle.std.proofs.Common.{ap, ◌∙◌, subst, subst₂, drop, length, append_assoc, append-nil, get_or, ltb}
+use Rattle.std.proofs.Common.{◌≡◌, ℕ, Bool, true, false, List, [], ◌∷◌, ◌++◌, Option, Some, None, cond, refl, sym}
+use Rattle.std.proofs.Common.{ap, ◌∙◌, subst₂, length, append_assoc, append-nil, get_or, ltb, arith}
 use Rattle.std.specs.List.{list_any, list_all}
-use Rattle.std.specs.Prelude.{◌&&◌}
 use Rattle.std.proofs.lemmas.Bool.{and_parts, or_parts, not-true, or_left, false≢true}
 use Rattle.std.proofs.lemmas.Option.{same_Some}
 use Rattle.instructions.proofs.Lists.{or_false}
@@ -13,14 +12,10 @@ use Rattle.sequential.proofs.Runs.{replay_on}
 use Rattle.program_order.proofs.theorem.Issuing.{replay_more}
 use Rattle.in_flight.specs.declared.pending.Pending.{Pending}
 use Rattle.program_order.proofs.effects.Effects.{write_all_rest, do_option, do_parts, do_work-is}
-use Rattle.program_order.proofs.theorem.Theorem.{IsRight, run_kept, boot_right, drained_completed, completed_read}
+use Rattle.program_order.proofs.theorem.Theorem.{run_kept, boot_right, drained_completed, completed_read}
 use Rattle.program_order.proofs.theorem.Theorem.{made_allowed}
-use Rattle.relocation.specs.Relocation.{package_fits}
-use Rattle.instructions.specs.declared.refusal.Halt.{Halt}
-use Rattle.instructions.specs.declared.refusal.Halt.TheVariants.{Stop}
 use Rattle.instructions.specs.declared.refusal.Refusal.{Refusal}
-use Rattle.instructions.specs.declared.refusal.Refusal.TheVariants.{Faulted, Halted}
-use Rattle.in_flight.specs.Tests.{Test, refusal_of}
+use Rattle.in_flight.specs.Tests.{refusal_of}
 use Rattle.program_order.specs.Headline.{GainsAccesses, IsFaithful, IsFaultedRun, ends_exchanged, exchange_step}
 use Rattle.program_order.specs.Headline.{exchanges, is_access, is_exchange, is_exchanged, log_of, logged, made_request}
 use Rattle.program_order.specs.Headline.{made_steps, makes_no_exchange, refusal_at_fault, request_by, steps_by}
@@ -30,7 +25,7 @@ use Rattle.program_order.specs.declared.event.Done.{Done}
 use Rattle.program_order.specs.declared.event.Done.TheVariants.{Word}
 use Rattle.program_order.specs.Run.{done_by, settled, IsAnswer, IsAnswered, settled_all}
 use Rattle.sequential.specs.Swap.{program_entered, swap}
-use Rattle.std.specs.Prelude.{not, is_some, unwrap_or, Result, Ok, Err}
+use Rattle.std.specs.Prelude.{not, Result, Ok, Err}
 use Rattle.instructions.specs.Finding.{Found}
 use Rattle.program_order.specs.Processor.{Processor, boot_processor, completed, replayed}
 use Rattle.program_order.specs.Events.{after, after_found, allowed, tests_of}
@@ -40,22 +35,18 @@ use Rattle.program_order.specs.Peripheral.{after_pp_read, after_pp_write}
 use Rattle.program_order.specs.Units.{after_finish, after_read, after_store, after_work}
 use Rattle.program_order.specs.Issue.{after_issue, issue_tests}
 use Rattle.program_order.specs.declared.event.Event.{Event}
-use Rattle.program_order.specs.declared.event.Event.TheVariants.{Accept, Ask, BankFree, Exchange, Finish, Issue, Read}
-use Rattle.program_order.specs.declared.event.Event.TheVariants.{Return, Store as StoreResult, PpRead, PpWrite}
+use Rattle.program_order.specs.declared.event.Event.TheVariants.{Issue}
+use Rattle.program_order.specs.declared.event.Event.TheVariants.{PpRead}
 use Rattle.hopper.specs.declared.reference.Reference.{Reference}
 use Rattle.in_flight.specs.declared.pending.Outstanding.{Outstanding}
-use Rattle.in_flight.specs.declared.pending.Outstanding.TheVariants.{Accepted, Entered}
 use Rattle.in_flight.specs.declared.pending.Stage.{Stage}
-use Rattle.in_flight.specs.declared.pending.Stage.TheVariants.{Finished, Read as HasRead, Unread}
 use Rattle.relocation.specs.declared.area.Access.{Access}
 use Rattle.relocation.specs.declared.area.Access.TheVariants.{Load as LoadInto, Store as StoreWord}
-use Rattle.sequential.specs.Log.{issued}
 use Rattle.sequential.specs.Replay.{Exchanged, Issued, LogStep, ReadAt, Wrote, boot, do_log_step, replay}
-use Rattle.sequential.specs.State.{Bounds, access_at, bounds_of, jump_to, halt_by, or_fault, move_to, store_word, write}
+use Rattle.sequential.specs.State.{Bounds, access_at, jump_to, halt_by, or_fault, move_to, store_word, write}
 use Rattle.sequential.specs.Step.{do_fetched, do_instruction, step, step_unless}
 use Rattle.sequential.specs.Work.{Work, write_and_jump}
 use Rattle.sequential.specs.declared.fetching.Fetched.{Fetched}
-use Rattle.sequential.specs.declared.fetching.Fetched.TheVariants.{Halting, Passing, Taking}
 use Rattle.sequential.specs.declared.state.State.{State}
 
 -- ---- the books: log, request, and what was given at boot ----
@@ -78,9 +69,7 @@ books_found w (Some x) f h = h x
 
 books_store : (w : Processor) (f : Found Pending Stage) (t : Stage) → Books w (after_store w f t) w.request []
 unfolding after_store after_work
-books_store w f Unread = books_same w _ refl refl refl refl
-books_store w f (HasRead os) = books_same w _ refl refl refl refl
-books_store w f (Finished v) = books_same w _ refl refl refl refl
+books_store w f t = grind (arith, books_same)
 
 books_accept : (w : Processor) (f : Found Pending Reference) (a : ℕ) (access : Access)
     → Books w (after_accept w f a access) w.request []
@@ -90,9 +79,7 @@ books_accept w f a (StoreWord v) = books_same w _ refl refl refl refl
 
 books_issue : (w : Processor) (g : Fetched) → Books w (after_issue w g) w.request (Issued ∷ [])
 unfolding after_issue
-books_issue w (Halting k position) = record { log = refl; request = refl; boot = refl; budget = refl }
-books_issue w (Passing position) = record { log = refl; request = refl; boot = refl; budget = refl }
-books_issue w (Taking i position) = record { log = refl; request = refl; boot = refl; budget = refl }
+books_issue w g = grind arith
 
 books_exchange : (w : Processor) (o : Option ℕ) → w.request ≡ o → Books w (after_exchange w o) None (exchange_step o)
 unfolding after_exchange exchange_step
@@ -101,17 +88,8 @@ books_exchange w (Some n) e = record { log = refl; request = refl; boot = refl; 
 
 pub books_after : (w : Processor) (e : Event) → Books w (after w e) (made_request w.request e) (made_steps w.request e)
 unfolding after made_request made_steps after_read after_finish after_return after_pp_read after_pp_write
-books_after w Issue = books_issue w _
-books_after w (Read u) = books_found w _ _ (λ f. books_same w _ refl refl refl refl)
-books_after w (Finish u) = books_found w _ _ (λ f. books_same w _ refl refl refl refl)
-books_after w (StoreResult u) = books_found w _ _ (λ f. books_store w f f.answer)
-books_after w (Accept p) = books_found w _ _ (λ f. books_accept w f f.answer.address f.answer.access)
-books_after w (Return c) = books_found w _ _ (λ f. books_same w _ refl refl refl refl)
-books_after w (BankFree k) = books_same w _ refl refl refl refl
-books_after w (Ask n) = record { log = sym (append-nil w.log); request = refl; boot = refl; budget = refl }
-books_after w Exchange = books_exchange w w.request refl
-books_after w (PpRead a) = record { log = refl; request = refl; boot = refl; budget = refl }
-books_after w (PpWrite a v) = record { log = refl; request = refl; boot = refl; budget = refl }
+books_after w e =
+    grind (arith, books_issue, books_found, books_same, books_store, books_accept, books_exchange, append-nil)
 
 pub books_by : (w : Processor) (e : Event) (a : Result Done Refusal)
     → Books w (settled w e a) (request_by a w.request e) (steps_by a w.request e)
@@ -124,12 +102,7 @@ pub run_log : (w : Processor) (es : List Event) (given : List (Result Done Refus
 unfolding settled_all logged
 run_log w [] given = sym (append-nil w.log)
 run_log w (e ∷ es) [] = sym (append-nil w.log)
-run_log w (e ∷ es) (a ∷ given) =
-    let b = books_by w e a in
-    run_log (settled w e a) es given
-    ∙ ap (λ l. l ++ logged (settled w e a).request es given) b.log
-    ∙ append_assoc w.log _ _
-    ∙ ap (λ r. w.log ++ (steps_by a w.request e ++ logged r es given)) b.request
+run_log w (e ∷ es) (a ∷ given) = grind (arith, run_log (settled w e a) es given, books_by, append_assoc)
 
 pub run_boot : (w : Processor) (es : List Event) (given : List (Result Done Refusal))
     → (settled_all w es given).boot_memory ≡ w.boot_memory
@@ -151,25 +124,15 @@ write_and_jump-fault b s w h = or_left _ _ (jump_to-fault _ w.jump ∙ ap (λ y.
 
 do_option-fault : (s : State) (o : Option Outstanding) → (do_option s o).fault ≡ s.fault
 unfolding do_option do_outstanding access_at write store_word
-do_option-fault s None = refl
-do_option-fault s (Some (Entered slot a (LoadInto n))) = refl
-do_option-fault s (Some (Entered slot a (StoreWord w))) = refl
-do_option-fault s (Some (Accepted n w)) = refl
+do_option-fault s o = grind arith
 
 do_fetched-fault : (b : Bounds) (s : State) (at : ℕ) (g : Fetched) → s.fault ≡ true → (do_fetched b s at g).fault ≡ true
 unfolding do_fetched do_instruction do_parts halt_by move_to
-do_fetched-fault b s at (Halting k position) h = h
-do_fetched-fault b s at (Passing position) h = h
-do_fetched-fault b s at (Taking i position) h = ap (λ y. y.fault) (do_work-is b (record s { position = position }) _)
-    ∙ do_option-fault _ _ ∙ write_and_jump-fault b (record s { position = position }) _ h
+do_fetched-fault b s h g k = grind (arith, do_work-is, do_option-fault, write_and_jump-fault)
 
 step-fault : (s : State) → s.fault ≡ true → (step s).fault ≡ true
 unfolding step step_unless
-step-fault s h = by_halt s.halt
-  where
-    by_halt : (o : Option Halt) → (step_unless s o).fault ≡ true
-    by_halt None = do_fetched-fault _ s _ _ h
-    by_halt (Some k) = h
+step-fault s h = grind (arith, do_fetched-fault)
 
 -- the state that the test returns is the tested state
 let_through : (b : Bool) (s t : State) → cond b (Some s) None ≡ Some t → s ≡ t
@@ -179,12 +142,7 @@ let_through false s t h = cc
 log_step-fault : (s : State) (x : LogStep) (t : State) → is_exchanged x ≡ false → do_log_step s x ≡ Some t
     → s.fault ≡ true → t.fault ≡ true
 unfolding do_log_step is_exchanged store_word
-log_step-fault s Issued t n h f = ap (λ (y : State). y.fault) (sym (same_Some (step s) t h)) ∙ step-fault s f
-log_step-fault s (Exchanged k) t n h f = cc
-log_step-fault s (ReadAt a) t n h f =
-    ap (λ (y : State). y.fault) (sym (let_through (ltb a (length s.memory)) s t h)) ∙ f
-log_step-fault s (Wrote a w) t n h f =
-    ap (λ (y : State). y.fault) (sym (let_through (ltb a (length s.memory)) (store_word s a w) t h)) ∙ f
+log_step-fault s x t n h f = grind (arith, step-fault, let_through, same_Some)
 
 -- once set, the fault flag stays set through all later steps but an exchange
 replay-fault : (s : State) (xs : List LogStep) (t : State) → list_any is_exchanged xs ≡ false → replay s xs ≡ Some t
@@ -221,8 +179,7 @@ set_at_once s u Issued xs f n h g = record {
   later = xs;
   run_is = refl;
   never_before = λ front rest e t k. none_before front rest e t k;
-  always_after = λ more q t k. replay-fault (step s) more t q k
-      (ap (λ (y : State). y.fault) (same_Some (step s) u h) ∙ g);
+  always_after = grind (arith, replay-fault, same_Some);
 }
   where
     none_before : (front rest : List LogStep) → [] ≡ front ++ rest → (t : State) → replay s front ≡ Some t
@@ -232,9 +189,7 @@ set_at_once s u Issued xs f n h g = record {
 set_at_once s u (Exchanged k) xs f n h g = cc
 set_at_once s u (ReadAt a) xs f n h g =
     absurd (false≢true (sym f ∙ ap (λ (y : State). y.fault) (let_through (ltb a (length s.memory)) s u h) ∙ g))
-set_at_once s u (Wrote a w) xs f n h g =
-    absurd (false≢true (sym f
-    ∙ ap (λ (y : State). y.fault) (let_through (ltb a (length s.memory)) (store_word s a w) u h) ∙ g))
+set_at_once s u (Wrote a w) xs f n h g = grind arith
 
 -- the first step doesn't set the fault flag
 set_later : (s u : State) (x : LogStep) (xs : List LogStep) → s.fault ≡ false → do_log_step s x ≡ Some u
@@ -255,11 +210,7 @@ set_later s u x xs f h r = record {
     not_before : (front rest : List LogStep) → x ∷ r.earlier ≡ front ++ rest → (t : State) → replay s front ≡ Some t
         → t.fault ≡ false
     not_before [] rest e t k = ap (λ (y : State). y.fault) (sym (same_Some s t k)) ∙ f
-    not_before (y ∷ front) rest e t k =
-        let head : y ≡ x = cc in
-        let tail : r.earlier ≡ front ++ rest = cc in
-        r.never_before front rest tail t
-        (onward front t (ap (λ z. option_and_then (λ v. replay v front) (do_log_step s z)) (sym head) ∙ k))
+    not_before (y ∷ front) rest e t k = grind arith
 
 first_fault : (s : State) (xs : List LogStep) (t : State) → list_any is_exchanged xs ≡ false → replay s xs ≡ Some t
     → s.fault ≡ false → t.fault ≡ true → FirstFault s xs
@@ -293,8 +244,7 @@ no_exchange_more : (xs : List LogStep) (x : LogStep) → list_any is_exchanged x
     → list_any is_exchanged (xs ++ x ∷ []) ≡ false
 no_exchange_more [] x h k = or_false (is_exchanged x) ∙ k
 no_exchange_more (y ∷ xs) x h k =
-    let p = or_parts (is_exchanged y) (list_any is_exchanged xs) h in
-    ap (λ b. b || list_any is_exchanged (xs ++ x ∷ [])) p.0 ∙ no_exchange_more xs x p.1 k
+    let p = or_parts (is_exchanged y) (list_any is_exchanged xs) h in cc (no_exchange_more xs x p.1 k)
 
 pub swap-no_fault : (n : ℕ) (s : State) → (swap n s).fault ≡ false
 unfolding swap program_entered
@@ -322,8 +272,7 @@ split_exchange memory log s t n p h = record {
   ends = exchanged_last log n;
   starts = replay_more (boot memory) s log (Exchanged n)
       (ap (replay (boot memory)) p.log_is ∙ replay_on (boot memory) p.start p.before p.run p.starts ∙ p.leads) ∙ h;
-  no_fault = ap (λ (y : State). y.fault) (sym (let_through (package_fits n (length s.memory)) (swap n s) t h))
-      ∙ swap-no_fault n s;
+  no_fault = grind (arith, let_through, swap-no_fault);
   run = [];
   log_is = sym (append-nil (log ++ Exchanged n ∷ []));
   no_exchange = refl;
@@ -333,25 +282,12 @@ split_exchange memory log s t n p h = record {
 -- one more step, an instruction or a peripheral access
 split_other : (memory : List ℕ) (log : List LogStep) (s t : State) (x : LogStep) → IsSplit memory log s
     → do_log_step s x ≡ Some t → is_exchanged x ≡ false → IsSplit memory (log ++ x ∷ []) t
-split_other memory log s t x p h n = record {
-  before = p.before;
-  start = p.start;
-  ends = p.ends;
-  starts = p.starts;
-  no_fault = p.no_fault;
-  run = p.run ++ x ∷ [];
-  log_is = ap (λ l. l ++ x ∷ []) p.log_is ∙ append_assoc p.before p.run (x ∷ []);
-  no_exchange = no_exchange_more p.run x p.no_exchange n;
-  leads = replay_more p.start s p.run x p.leads ∙ h;
-}
+split_other memory log s t x p h n = grind (arith, no_exchange_more, replay_more, append_assoc)
 
 split_more : (memory : List ℕ) (log : List LogStep) (s t : State) (x : LogStep) → IsSplit memory log s
     → do_log_step s x ≡ Some t → IsSplit memory (log ++ x ∷ []) t
 unfolding is_exchanged
-split_more memory log s t Issued p h = split_other memory log s t Issued p h refl
-split_more memory log s t (Exchanged n) p h = split_exchange memory log s t n p h
-split_more memory log s t (ReadAt a) p h = split_other memory log s t (ReadAt a) p h refl
-split_more memory log s t (Wrote a w) p h = split_other memory log s t (Wrote a w) p h refl
+split_more memory log s t x p h = search (arith, split_other, split_exchange)
 
 split_all : (memory : List ℕ) (log more : List LogStep) (s t : State) → IsSplit memory log s → replay s more ≡ Some t
     → IsSplit memory (log ++ more) t
@@ -365,8 +301,7 @@ split_all memory log (x ∷ xs) s t p h =
         → IsSplit memory ((log ++ x ∷ []) ++ xs) t) → option_and_then (λ u. replay u xs) o ≡ Some t
         → IsSplit memory (log ++ x ∷ xs) t
     after None e ih k = cc
-    after (Some u) e ih k =
-        subst (λ l. IsSplit memory l t) (append_assoc log (x ∷ []) xs) (ih u (split_more memory log s u x p e) k)
+    after (Some u) e ih k = grind (arith, split_more, append_assoc)
 
 split_boot : (memory : List ℕ) → IsSplit memory [] (boot memory)
 unfolding boot replay ends_exchanged
@@ -393,9 +328,7 @@ fault_found w (Some x) f h k = h x
 fault_store : (w : Processor) (f : Found Pending Stage) (t : Stage) → w.state.fault ≡ true
     → (after_store w f t).state.fault ≡ true
 unfolding after_store after_work
-fault_store w f Unread h = h
-fault_store w f (HasRead os) h = h
-fault_store w f (Finished v) h = write_and_jump-fault (bounds_of w.state) w.state _ h
+fault_store w f t h = grind (arith, write_and_jump-fault)
 
 fault_accept : (w : Processor) (f : Found Pending Reference) (a : ℕ) (access : Access) → w.state.fault ≡ true
     → (after_accept w f a access).state.fault ≡ true
@@ -405,37 +338,17 @@ fault_accept w f a (StoreWord v) h = h
 
 fault_issue : (w : Processor) (g : Fetched) → w.state.fault ≡ true → (after_issue w g).state.fault ≡ true
 unfolding after_issue move_to halt_by
-fault_issue w (Halting k position) h = h
-fault_issue w (Passing position) h = h
-fault_issue w (Taking i position) h = h
+fault_issue w g h = grind arith
 
 pub fault_after : (w : Processor) (e : Event) → is_exchange e ≡ false → w.state.fault ≡ true
     → (after w e).state.fault ≡ true
 unfolding after is_exchange after_read after_finish after_return after_pp_read after_pp_write write store_word
-fault_after w Issue n h = fault_issue w _ h
-fault_after w (Read u) n h = fault_found w _ _ (λ f. h) h
-fault_after w (Finish u) n h = fault_found w _ _ (λ f. h) h
-fault_after w (StoreResult u) n h = fault_found w _ _ (λ f. fault_store w f f.answer h) h
-fault_after w (Accept p) n h = fault_found w _ _ (λ f. fault_accept w f f.answer.address f.answer.access h) h
-fault_after w (Return c) n h = fault_found w _ _ (λ f. h) h
-fault_after w (BankFree k) n h = h
-fault_after w (Ask k) n h = h
-fault_after w Exchange n h = cc
-fault_after w (PpRead a) n h = h
-fault_after w (PpWrite a v) n h = h
+fault_after w e n h = grind (arith, fault_issue, fault_found, fault_store, fault_accept)
 
 -- the refusal of an issue while the fault flag is set
 issue_at_fault : (w : Processor) → w.state.fault ≡ true → allowed w Issue ≡ Some (refusal_at_fault w.state.halt)
 unfolding allowed tests_of issue_tests refusal_of refusal_at_fault
-issue_at_fault w h =
-    by_halt w.state.halt w.state.fault (drop 2 (issue_tests w.state w.pending w.request w.budget (issued w.log))) h
-  where
-    by_halt : (o : Option Halt) (f : Bool) (rest : List Test) → f ≡ true
-        → refusal_of (record { fails = is_some o; refusal = Halted (unwrap_or o Stop) }
-        ∷ record { fails = f; refusal = Faulted } ∷ rest) ≡ Some (refusal_at_fault o)
-    by_halt None true rest e = refl
-    by_halt None false rest e = cc
-    by_halt (Some k) f rest e = refl
+issue_at_fault w h = grind arith
 
 -- ---- no exchange while the fault is set ----
 
@@ -443,18 +356,7 @@ issue_at_fault w h =
 accesses_alone : (w : Processor) (r : Option ℕ) (e : Event) → w.state.fault ≡ true → allowed w e ≡ None
     → is_exchange e ≡ false → list_all is_access (made_steps r e) ≡ true
 unfolding made_steps is_exchange is_access
-accesses_alone w r Issue f h n =
-    let k : Some (refusal_at_fault w.state.halt) ≡ None = sym (issue_at_fault w f) ∙ h in cc
-accesses_alone w r (Read u) f h n = refl
-accesses_alone w r (Finish u) f h n = refl
-accesses_alone w r (StoreResult u) f h n = refl
-accesses_alone w r (Accept p) f h n = refl
-accesses_alone w r (Return c) f h n = refl
-accesses_alone w r (BankFree k) f h n = refl
-accesses_alone w r (Ask k) f h n = refl
-accesses_alone w r Exchange f h n = cc
-accesses_alone w r (PpRead a) f h n = refl
-accesses_alone w r (PpWrite a v) f h n = refl
+accesses_alone w r e f h n = grind (arith, issue_at_fault)
 
 -- the log gains only peripheral accesses, and the fault flag stays set
 abbrev StaysFaulted : Processor → Processor → Type 0
@@ -467,28 +369,16 @@ all-append : {K : Type 0} (f : K → Bool) (xs ys : List K) → list_all f xs �
     → list_all f (xs ++ ys) ≡ true
 all-append f [] ys h k = k
 all-append f (x ∷ xs) ys h k =
-    let p = and_parts (f x) (list_all f xs) h in
-    ap (λ b. b && list_all f (xs ++ ys)) p.0 ∙ all-append f xs ys p.1 k
+    let p = and_parts (f x) (list_all f xs) h in cc (all-append f xs ys p.1 k)
 
 gains_both : (xs ys zs : List LogStep) → GainsAccesses xs ys → GainsAccesses ys zs → GainsAccesses xs zs
-gains_both xs ys zs g h = record {
-  more = g.more ++ h.more;
-  accesses = all-append is_access g.more h.more g.accesses h.accesses;
-  gained = h.gained ∙ ap (λ l. l ++ h.more) g.gained ∙ append_assoc xs g.more h.more;
-}
+gains_both xs ys zs g h = grind (arith, all-append, append_assoc)
 
 fault_settled : (w : Processor) (e : Event) (a : Result Done Refusal) → w.state.fault ≡ true → IsAnswer w e a
     → exchanges e a ≡ false → StaysFaulted w (settled w e a)
 unfolding settled exchanges
 fault_settled w e (Ok done) f h n =
-    let none = made_allowed w e done h in (
-      record {
-        more = made_steps w.request e;
-        accesses = accesses_alone w w.request e f none n;
-        gained = (books_after w e).log;
-      },
-      fault_after w e n f,
-    )
+    let none = made_allowed w e done h in grind (arith, accesses_alone, books_after, fault_after)
 fault_settled w e (Err k) f h n = (gains_nothing w.log, f)
 
 pub fault_run : (w : Processor) (es : List Event) (given : List (Result Done Refusal)) → w.state.fault ≡ true
@@ -500,8 +390,7 @@ fault_run w (e ∷ es) [] f h n = (gains_nothing w.log, f)
 fault_run w (e ∷ es) (a ∷ given) f h n =
     let p = and_parts (not (exchanges e a)) (makes_no_exchange es given) n in
     let k = fault_settled w e a f h.0 (not-true (exchanges e a) p.0) in
-    let r = fault_run (settled w e a) es given k.1 h.1 p.1 in
-    (gains_both w.log (settled w e a).log _ k.0 r.0, r.1)
+    let r = fault_run (settled w e a) es given k.1 h.1 p.1 in search (arith, gains_both)
 
 -- ---- the headline ----
 
@@ -522,32 +411,11 @@ run_from_boot : (memory : List ℕ) (budget : ℕ) (events : List Event) (given 
     → replay (boot memory) (log_of events given) ≡ Some (completed w)
 unfolding replayed
 run_from_boot memory budget events given w h l =
-    ap (replay (boot memory)) (sym (ap (λ x. x.log) l ∙ run_log_from_boot memory budget events given))
-    ∙ ap (λ m. replay (boot m) w.log)
-    (sym (ap (λ x. x.boot_memory) l ∙ boot_memory_from_boot memory budget events given))
-    ∙ (subst IsRight (sym l)
-    (run_kept (boot_processor memory budget) events given h (boot_right memory budget))).1
+    grind (arith, run_log_from_boot, boot_memory_from_boot, run_kept, boot_right)
 
 faulted_run : (log : List LogStep) (memory : List ℕ) (t : State) → t.fault ≡ true → IsSplit memory log t
     → IsFaultedRun log memory t
-faulted_run log memory t f p =
-    let k = first_fault p.start p.run t p.no_exchange p.leads p.no_fault f in
-    record {
-      before = p.before;
-      start = p.start;
-      ends = p.ends;
-      starts = p.starts;
-      no_fault_at_start = p.no_fault;
-      run = p.run;
-      log_is = p.log_is;
-      no_exchange = p.no_exchange;
-      leads = p.leads;
-      earlier = k.earlier;
-      later = k.later;
-      run_is = k.run_is;
-      never_before = k.never_before;
-      always_after = k.always_after;
-    }
+faulted_run log memory t f p = grind (arith, first_fault)
 
 -- every faulted state that is a replay of the log is on such a run
 pub replay_faulted : (log : List LogStep) (memory : List ℕ) (t : State) → replay (boot memory) log ≡ Some t
@@ -567,13 +435,13 @@ unfolding completed
 faithful memory budget events given w r =
     let comes : replay (boot memory) (log_of events given) ≡ Some (completed w) =
     run_from_boot memory budget events given (without_seats w) r.answered r.left in
-    let replays : w.pending ≡ [] → replay (boot memory) (log_of events given) ≡ Some w.state =
-    λ e. comes ∙ ap Some (drained_completed w e) in
-    record {
-      replays = replays;
-      log = ap (λ (x : Processor). x.log) r.left ∙ run_log_from_boot memory budget events given;
-      boot_memory = ap (λ (x : Processor). x.boot_memory) r.left ∙ boot_memory_from_boot memory budget events given;
-      reads = λ a h. (completed w, comes, read_done w a h);
-      fault = λ e f. replay_faulted (log_of events given) memory w.state (replays e) f;
-      held = λ f. (issue_at_fault w f, λ e n. fault_after w e n f);
-    }
+    grind (
+      arith,
+      drained_completed,
+      run_log_from_boot,
+      boot_memory_from_boot,
+      read_done,
+      replay_faulted,
+      issue_at_fault,
+      fault_after,
+    )

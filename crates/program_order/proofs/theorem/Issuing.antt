@@ -1,10 +1,10 @@
 -- An issue is a step of the completed state.
 use Rattle.std.specs.Prelude.{option_and_then}
 use Rattle.scoreboard.specs.Reservations as board
-use Rattle.in_flight.specs.Pending.{delays_fetch, awaited, entered_in, has_turn}
+use Rattle.in_flight.specs.Pending.{delays_fetch, awaited, entered_in}
 use Rattle.in_flight.specs.Pending.{is_branch, is_entered, to_come}
 use Rattle.in_flight.proofs.asking.PendingReservations.{comes}
-use Rattle.std.proofs.Common.{◌≡◌, ℕ, false, List, [], ◌∷◌, ◌++◌, Option, Some, None, refl, ap, ◌∙◌}
+use Rattle.std.proofs.Common.{◌≡◌, ℕ, false, List, [], ◌∷◌, ◌++◌, Option, Some, None, refl, ap, ◌∙◌, arith}
 use Rattle.std.specs.Prelude.{◌&&◌, is_none}
 use Rattle.std.specs.List.{list_any}
 use Rattle.instructions.proofs.Lists.{each_of_any, any_of_each, each_both, pairs_push}
@@ -60,10 +60,7 @@ step_from : (s : State) (b : Bounds) (position : ProgramPosition) → s.halt ≡
     ≡ position
     → step s ≡ do_fetched b s position.p (fetch b s.memory position)
 unfolding step step_unless
-step_from s b position h e f =
-    ap (step_unless s) h
-    ∙ ap (λ d. do_fetched d s s.position.p (fetch d s.memory s.position)) e
-    ∙ ap (λ k. do_fetched b s k.p (fetch b s.memory k)) f
+step_from s b position h e f = cc
 
 -- the completed state fetches the same instruction as the present state
 pub step-complete : (s : State) (ms : List Pending) → s.halt ≡ None → list_any is_branch ms ≡ false
@@ -80,19 +77,14 @@ step-complete s ms h nb w =
 pub issue_halting : (b : Bounds) (s : State) (ms : List Pending) (position : ProgramPosition) (k : Halt)
     → list_any is_branch ms ≡ false
     → complete b (halt_by (move_to s position) k) ms ≡ halt_by (move_to (complete b s ms) position) k
-issue_halting b s ms position k nb =
-    complete-halt b (move_to s position) ms k ∙ ap (λ x. halt_by x k)
-    (complete-move b s ms position (each_no_branch ms nb))
+issue_halting b s ms position k nb = simp (complete-halt, complete-move, each_no_branch)
 
 pub issue_taking : (b : Bounds) (s : State) (ms : List Pending) (position : ProgramPosition) (m : Pending)
     → m.phase ≡ Before Unread → list_any is_branch ms ≡ false
     → complete b (move_to s position) (ms ++ m ∷ []) ≡ do_instruction b
     (move_to (complete b s ms) position) m.instr m.at
 unfolding complete finish_effects run_phase value_at do_instruction
-issue_taking b s ms position m e nb =
-    complete-append b (move_to s position) ms (m ∷ [])
-    ∙ ap (run_phase b _ m.instr m.at) e
-    ∙ ap (λ x. do_instruction b x m.instr m.at) (complete-move b s ms position (each_no_branch ms nb))
+issue_taking b s ms position m e nb = grind (arith, complete-append, complete-move, each_no_branch)
 
 -- a new instruction is apart from the earlier ones
 pub new_apart : (ms : List Pending) (m : Pending) → m.phase ≡ Before Unread → list_any is_branch ms ≡ false
@@ -101,15 +93,8 @@ unfolding comes board.comes results_to_come overlap is_entered entered_in
 new_apart ms m e nb h apart =
     pairs_push IsApart ms m apart
     (each_both (λ y. Each (λ r. is_in (to_come y) r ≡ false) (results (shape_of m.instr))) IsNoBranch (λ y. IsApart y m)
-    (λ y k n. record {
-      disjoint = ap (λ p. list_any (is_in (to_come y)) (to_come_in (shape_of m.instr) p)) e
-          ∙ any_of_each (is_in (to_come y)) (λ r. is_in (to_come y) r ≡ false) (λ r i. i) (results (shape_of m.instr))
-          k;
-      in_turn = ap (λ p. entered_in p && has_turn y) e;
-      no_branch = n;
-    })
-    ms (each_swap (λ r y. is_in (to_come y) r ≡ false) (results (shape_of m.instr)) ms
-    (not_awaited ms (results (shape_of m.instr)) h)) (each_no_branch ms nb))
+    (λ y k n. grind (arith, to_come_in, any_of_each))
+    ms (search (arith, each_swap, not_awaited)) (each_no_branch ms nb))
 
 and_then-Some : (o : Option State) → option_and_then (λ t. Some t) o ≡ o
 and_then-Some None = refl

@@ -1,5 +1,5 @@
 -- The effect of each event on one pending instruction, over plain variables.
-use Rattle.std.proofs.Common.{◌≡◌, ℕ, List, [], ◌∷◌, ◌++◌, Option, Some, None, refl, sym, ap, ◌∙◌, get_or}
+use Rattle.std.proofs.Common.{◌≡◌, ℕ, List, [], ◌∷◌, ◌++◌, Option, Some, None, refl, sym, ap, ◌∙◌, get_or, arith}
 use Rattle.program_order.proofs.effects.Effects.{do_parts, do_work-is, do_option}
 use Rattle.program_order.proofs.effects.Completing.{complete-append}
 use Rattle.instructions.specs.Shape.{shape_of}
@@ -15,15 +15,14 @@ use Rattle.in_flight.specs.declared.pending.Pending.{Pending}
 use Rattle.in_flight.specs.declared.pending.Phase.{Phase}
 use Rattle.in_flight.specs.declared.pending.Phase.TheVariants.{After, Before}
 use Rattle.in_flight.specs.declared.pending.Stage.{Stage}
-use Rattle.in_flight.specs.declared.pending.Stage.TheVariants.{Finished, Read as HasRead, Unread}
+use Rattle.in_flight.specs.declared.pending.Stage.TheVariants.{Finished}
 use Rattle.registers.specs.declared.file.RegisterFile.{RegisterFile}
 use Rattle.relocation.specs.declared.area.Access.{Access}
 use Rattle.relocation.specs.declared.area.Access.TheVariants.{Load as LoadInto, Store as StoreWord}
 use Rattle.sequential.specs.State.{Bounds, absolute, access_at, store_word, write}
-use Rattle.sequential.specs.Work.{write_and_jump, do_work, operands, work_of}
+use Rattle.sequential.specs.Work.{write_and_jump, operands, work_of}
 use Rattle.sequential.specs.declared.state.State.{State}
 use Rattle.sequential.specs.declared.work.ProgramReference.{ProgramReference}
-use Rattle.unit_ops.specs.Values.{value_of}
 use Rattle.unit_ops.specs.declared.UnitValue.{UnitValue}
 
 -- replacing one instruction of the list by others
@@ -31,11 +30,7 @@ pub complete-put_back : (b : Bounds) (s c : State) (es ns : List Pending) (m : P
     → complete b (complete b c es) ns ≡ finish_effects b (complete b s es) m
     → complete b c (es ++ (ns ++ ls)) ≡ complete b s (es ++ m ∷ ls)
 unfolding complete
-complete-put_back b s c es ns m ls h =
-    complete-append b c es (ns ++ ls)
-    ∙ complete-append b (complete b c es) ns ls
-    ∙ ap (λ x. complete b x ls) h
-    ∙ sym (complete-append b s es (m ∷ ls))
+complete-put_back b s c es ns m ls h = grind (arith, complete-append)
 
 pub run_in : (b : Bounds) (s : State) (m : Pending) (p : Phase) → m.phase ≡ p → finish_effects b s m
     ≡ run_phase b s m.instr m.at p
@@ -45,38 +40,28 @@ run_in b s m p e = ap (run_phase b s m.instr m.at) e
 value-read : (i : Instr) (at : ℕ) (g k : RegisterFile) (t : Stage) → operands i at g ≡ operands i at k
     → value_at i at (stage_after_read g i at t) k ≡ value_at i at t k
 unfolding value_at stage_after_read
-value-read i at g k Unread e = ap (value_of i) e
-value-read i at g k (HasRead os) e = refl
-value-read i at g k (Finished v) e = refl
+value-read i h g k t e = grind arith
 
 pub finish_effects-read : (b : Bounds) (s : State) (m : Pending) (t : Stage) (g : RegisterFile) → m.phase ≡ Before t
     → operands m.instr m.at g ≡ operands m.instr m.at s.registers
     → finish_effects b s (in_phase m (Before (stage_after_read g m.instr m.at t))) ≡ finish_effects b s m
 unfolding finish_effects run_phase in_phase
-finish_effects-read b s m t g e a =
-    ap (λ v. do_work b s (work_of (shape_of m.instr) v)) (value-read m.instr m.at g s.registers t a)
-    ∙ sym (run_in b s m (Before t) e)
+finish_effects-read b s m t g e a = grind (arith, value-read, run_in)
 
 value-finish : (i : Instr) (at : ℕ) (g : RegisterFile) (t : Stage)
     → value_at i at (stage_after_finish i t) g ≡ value_at i at t g
 unfolding value_at stage_after_finish
-value-finish i at g Unread = refl
-value-finish i at g (HasRead os) = refl
-value-finish i at g (Finished v) = refl
+value-finish i h g t = grind arith
 
 pub finish_effects-finish : (b : Bounds) (s : State) (m : Pending) (t : Stage) → m.phase ≡ Before t
     → finish_effects b s (in_phase m (Before (stage_after_finish m.instr t))) ≡ finish_effects b s m
 unfolding finish_effects run_phase in_phase
-finish_effects-finish b s m t e =
-    ap (λ v. do_work b s (work_of (shape_of m.instr) v)) (value-finish m.instr m.at s.registers t)
-    ∙ sym (run_in b s m (Before t) e)
+finish_effects-finish b s m t e = grind (arith, value-finish, run_in)
 
 entering-slot : (s : State) (p q : ℕ) (o : Option ℕ) (access : Access)
     → do_option s (entering p o access) ≡ do_option s (entering q o access)
 unfolding entering do_option do_outstanding
-entering-slot s p q (Some a) access = refl
-entering-slot s p q None (LoadInto n) = refl
-entering-slot s p q None (StoreWord w) = refl
+entering-slot s p q o access = grind arith
 
 rest-slot : (b : Bounds) (s : State) (p q : ℕ) (r : Option ProgramReference)
     → do_option s (rest_of b p r) ≡ do_option s (rest_of b q r)

@@ -1,7 +1,7 @@
 -- Each event keeps the pending instructions apart, and keeps the completed state the replay of the log.
 use Rattle.std.proofs.Common.{Bool, ◌≡◌, ℕ, false, List, [], ◌∷◌, ◌++◌, Option, Some, None, cond, refl, sym, ap, ◌∙◌}
-use Rattle.std.proofs.Common.{subst, subst₂, length, inl, inr}
-use Rattle.std.proofs.Common.{true, not, ltb, get_or}
+use Rattle.std.proofs.Common.{subst, length}
+use Rattle.std.proofs.Common.{true, not, ltb, get_or, arith}
 use Rattle.std.specs.Prelude.{is_some, Result, Ok, Err}
 use Rattle.std.proofs.lemmas.List.{length-set}
 use Rattle.std.specs.List.{list_any}
@@ -27,7 +27,7 @@ use Rattle.in_flight.specs.Apart.{IsApart}
 use Rattle.instructions.specs.declared.instr.Unit.{Unit as FunctionalUnit}
 use Rattle.in_flight.specs.declared.pending.Arrival.{Arrival}
 use Rattle.program_order.specs.declared.event.Done.{Done}
-use Rattle.program_order.specs.Run.{answer_by, done_by, answer_of, IsAnswer, settled, IsAnswered, settled_all}
+use Rattle.program_order.specs.Run.{answer_by, answer_of, IsAnswer, settled, IsAnswered, settled_all}
 use Rattle.sequential.specs.Log.{issued}
 use Rattle.instructions.specs.Finding.{Found, put_back, seek}
 use Rattle.program_order.specs.Exchange.{ask_tests, exchange_tests, after_exchange}
@@ -67,14 +67,7 @@ from_kept : (w w' : Processor) (ms : List Pending) → w.pending ≡ ms
     → IsKept (bounds_of w.state) w.state w'.state ms w'.pending → bounds_of w'.state ≡ bounds_of w.state
     → replayed w' ≡ replayed w → w'.request ≡ w.request → IsRight w → IsRight w'
 unfolding completed bounds_of
-from_kept w w' ms e k eb er eq r = (
-  record {
-    apart = k.apart;
-    request_fits = subst₂ Fits (sym eq) (sym (ap (λ b. b.size) eb)) r.0.request_fits;
-  },
-  er ∙ r.1 ∙ ap Some (sym (ap (λ d. complete d w'.state w'.pending) eb ∙ k.same
-      ∙ ap (complete (bounds_of w.state) w.state) (sym e))),
-)
+from_kept w w' ms e k eb er eq r = grind arith
 
 -- ---- read ----
 
@@ -130,10 +123,7 @@ store_kept : (w : Processor) (u : FunctionalUnit) (o : Option (Found Pending Sta
     → refusal_of (tests_found o (λ f. store_tests (bounds_of w.state) w.pending f.answer f.earlier f.item.instr))
     ≡ None → IsRight w → IsRight (after_found w o (λ f. after_store w f f.answer))
 unfolding tests_found after_found
-store_kept w u None e h r = absurd (not_nothing h)
-store_kept w u (Some f) e h r =
-    let p = seek_splits (stage_at u) w.pending f e in
-    store_at w f f.answer p.0 (stage_found u f.item f.answer p.1) h r
+store_kept w u o e h r = search (arith, not_nothing, seek_splits, store_at, stage_found)
 
 -- ---- accept ----
 
@@ -164,8 +154,7 @@ unfolding tests_found after_found
 accept_kept w p None e h r = absurd (not_nothing h)
 accept_kept w p (Some f) e h r =
     let q = seek_splits (entry_at p) w.pending f e in
-    let k = entry_found p f.item f.answer q.1 in
-    accept_at w f k.0 f.answer.address f.answer.access w.busy q.0 k.1 h r
+    let k = entry_found p f.item f.answer q.1 in search (arith, accept_at)
 
 -- ---- return ----
 
@@ -190,17 +179,12 @@ is_some_none (Some x) h = cc
 issue_completed : (w : Processor) (g : Fetched) → list_any is_branch w.pending ≡ false
     → completed (after_issue w g) ≡ do_fetched (bounds_of w.state) (completed w) w.state.position.p g
 unfolding completed after_issue do_fetched bounds_of move_to halt_by
-issue_completed w (Halting k place) nb = issue_halting _ w.state w.pending place k nb
-issue_completed w (Passing place) nb = complete-move _ w.state w.pending place (each_no_branch w.pending nb)
-issue_completed w (Taking i place) nb = issue_taking _ w.state w.pending place _ refl nb
+issue_completed w g nb = grind (arith, issue_halting, complete-move, each_no_branch, issue_taking)
 
 issue_sound : (w : Processor) (g : Fetched) → list_any is_branch w.pending ≡ false
     → Each (λ t. t.fails ≡ false) (reservation_tests w.pending g) → IsSound w → IsSound (after_issue w g)
 unfolding after_issue reservation_tests move_to halt_by
-issue_sound w (Halting k place) nb h s = record { apart = s.apart; request_fits = s.request_fits }
-issue_sound w (Passing place) nb h s = record { apart = s.apart; request_fits = s.request_fits }
-issue_sound w (Taking i place) nb h s =
-    record { apart = new_apart w.pending _ refl nb h.1.0 s.apart; request_fits = s.request_fits }
+issue_sound w g nb h s = grind (arith, new_apart)
 
 issue_replayed : (w : Processor) (g : Fetched) (t : State) → replayed w ≡ Some t
     → replayed (after_issue w g) ≡ Some (step t)
@@ -216,10 +200,9 @@ issue_kept w h r =
     let t = refusal_none _ h in
     let g = fetch (bounds_of w.state) w.state.memory w.state.position in
     let nb = t.1.1.1.0 in (
-      issue_sound w g nb t.1.1.1.1.1.1 r.0,
+      grind (arith, issue_sound),
       issue_replayed w g _ r.1
-          ∙ ap Some (step-complete w.state w.pending (is_some_none w.state.halt t.0) nb t.1.1.1.1.1.0
-          ∙ sym (issue_completed w g nb)),
+          ∙ ap Some (grind (arith, step-complete, is_some_none, issue_completed)),
     )
 
 -- ---- exchange ----
@@ -243,7 +226,7 @@ exchange_at : (w : Processor) (o : Option ℕ) → w.pending ≡ [] → Fits o (
 unfolding after_exchange replayed do_log_step
 exchange_at w None e f r = r
 exchange_at w (Some n) e f r = (
-  record { apart = r.0.apart; request_fits = tt },
+  grind arith,
   replay_more _ w.state w.log (Exchanged n) (r.1 ∙ ap Some (drained_completed w e))
       ∙ ap (λ b. cond b (Some (swap n w.state)) None) f
       ∙ ap Some (sym (drained_completed _ e)),
@@ -258,17 +241,13 @@ within a n h = not-false _ h
 completed_within : (w : Processor) (a : ℕ) → not (ltb a (length w.state.memory)) ≡ false
     → ltb a (length (completed w).memory) ≡ true
 unfolding completed bounds_of
-completed_within w a h =
-    ap (λ (b : Bounds). ltb a b.size) (complete-bounds (bounds_of w.state) w.state w.pending)
-    ∙ within a (length w.state.memory) h
+completed_within w a h = grind (arith, complete-bounds, within)
 
 -- a write gives the same state before and after all pending instructions
 completed_write : (w : Processor) (a v : ℕ) → list_any (delays_access a) w.pending ≡ false
     → completed (after_pp_write w a v) ≡ store_word (completed w) a v
 unfolding completed after_pp_write
-completed_write w a v h =
-    ap (λ b. complete b (store_word w.state a v) w.pending) (store_word-bounds w.state a v)
-    ∙ complete-store_word (bounds_of w.state) w.state w.pending a v (untouched_by_access w.pending a h)
+completed_write w a v h = simp (store_word-bounds, complete-store_word, untouched_by_access)
 
 -- a word that is read is the word of the completed memory
 pub completed_read : (w : Processor) (a : ℕ) → allowed w (PpRead a) ≡ None
@@ -281,7 +260,7 @@ completed_read w a h =
 pp_read_kept : (w : Processor) (a : ℕ) → allowed w (PpRead a) ≡ None → IsRight w → IsRight (after_pp_read w a)
 unfolding allowed tests_of access_tests after_pp_read completed replayed do_log_step
 pp_read_kept w a h r = (
-  record { apart = r.0.apart; request_fits = r.0.request_fits },
+  grind arith,
   replay_more _ (completed w) w.log (ReadAt a) r.1
       ∙ ap (λ b. cond b (Some (completed w)) None) (completed_within w a (refusal_none _ h).1.1.0),
 )
@@ -290,11 +269,7 @@ pp_write_kept : (w : Processor) (a v : ℕ) → allowed w (PpWrite a v) ≡ None
     → IsRight (after_pp_write w a v)
 unfolding allowed tests_of access_tests after_pp_write replayed do_log_step bounds_of
 pp_write_kept w a v h r = (
-  record {
-    apart = r.0.apart;
-    request_fits = subst (Fits w.request) (sym (ap (λ (b : Bounds). b.size) (store_word-bounds w.state a v)))
-        r.0.request_fits;
-  },
+  grind (arith, store_word-bounds),
   replay_more _ (completed w) w.log (Wrote a v) r.1
       ∙ ap (λ b. cond b (Some (store_word (completed w) a v)) None) (completed_within w a (refusal_none _ h).1.1.0)
       ∙ ap Some (sym (completed_write w a v (refusal_none _ h).1.0)),
@@ -323,12 +298,7 @@ not_refused d done r k = cc
 -- an answer `Ok` is given only if no test fails
 pub made_allowed : (w : Processor) (e : Event) (done : Done) → IsAnswer w e (Ok done) → allowed w e ≡ None
 unfolding answer_of
-made_allowed w e done (inl h) = by_refusal (allowed w e) refl h
-  where
-    by_refusal : (o : Option Refusal) → allowed w e ≡ o → Ok done ≡ answer_by (done_by w e) o → allowed w e ≡ None
-    by_refusal None i k = i
-    by_refusal (Some r) i k = absurd (not_refused (done_by w e) done r k)
-made_allowed w e done (inr h) = h.otherwise_allowed
+made_allowed w e done h = grind (arith, not_refused)
 
 pub settled_kept : (w : Processor) (e : Event) (a : Result Done Refusal) → IsAnswer w e a → IsRight w
     → IsRight (settled w e a)

@@ -4,9 +4,7 @@ use Rattle.instruction_table.proofs.texts.OctalLaws.{octal_ends, octal_step}
 use Rattle.instruction_table.proofs.spelling.+put_octal.Goals as goal
 
 pub put_digit-requires-else-number-lt8-clause-room : goal.put_digit-requires-else-number-lt8-clause-room
-put_digit-requires-else-number-lt8-clause-room t c =
-    let len = (octal_ends c.args.number c.if-number-lt8.false).1 in
-    rw (c.put_octal.ensures, length-append) (omega (arith, len, c.requires))
+put_digit-requires-else-number-lt8-clause-room t c = grind (arith, octal_ends, length-append)
 
 pub returns-else-number-lt8 : goal.returns-else-number-lt8
 returns-else-number-lt8 t c =

@@ -1,29 +1,20 @@
-use Rattle.std.proofs.Common.{refl}
-use Rattle.sequential_run.specs.inner.Course.{moment_of}
+use Rattle.std.proofs.Common.{refl, rules, arith}
 use Rattle.sequential_run.proofs.Beginning.{run_begins}
 use Rattle.sequential_run.proofs.Fulfilling.{run_fulfils}
 use Rattle.sequential_run.proofs.Ending.{kept_begun, led_begun, led_off, led_on, run_ended, run_on, run_over, run_replays}
 use Rattle.sequential_run.proofs.running.run.Goals as goal
 
 pub loop-course-init : goal.loop-course-init
-loop-course-init c = record {
-  led = led_begun c.args.budget _;
-  kept = kept_begun c.args.memory c.args.start c.args.after.now c.args.free.now c.args.budget c.in-Ok.course
-      c.in-Ok.ensures.begun;
-}
+loop-course-init c = search (rules, led_begun, kept_begun, c.in-Ok.ensures.begun)
 
 pub loop-course-preserved : goal.loop-course-preserved
 loop-course-preserved c = record {
-  led = led_on c.args.budget c.in_ok-turn.field-0 _ (moment_of c.loop-course.course) _ c.if-branch.true
-      c.loop-course.invariant.led c.in_ok-turn.ensures.gone;
+  led = search (rules, led_on, c.if-branch.true, c.loop-course.invariant.led, c.in_ok-turn.ensures.gone);
   kept = c.in_ok-turn.ensures.kept;
 }
 
 pub returns-clause-run : goal.returns-clause-run
-returns-clause-run c = run_ended c.args.memory c.args.start c.args.after.now c.args.free.now c.args.budget
-    c.in-Ok.course c.turn.new.self c.in-Ok.ensures.begun
-    (led_off c.args.budget c.in_ok-turn.field-0 _ (moment_of c.loop-course.course) _ c.if-branch.false
-    c.loop-course.invariant.led c.in_ok-turn.ensures.gone)
+returns-clause-run c = grind (arith, run_ended, led_off)
 
 pub returns-clause-promised : goal.returns-clause-promised
 returns-clause-promised c =

@@ -1,14 +1,11 @@
 -- A turn with an exchange: refused for its range, or one turn of the run.
-use Rattle.std.proofs.Common.{rules, refl}
+use Rattle.std.proofs.Common.{rules, refl, arith}
 use Rattle.std.proofs.lemmas.Result.{err_from_is_err_and}
 use Rattle.sequential_run.proofs.Going.{exchange_refused, exchange_goes, exchange_keeps}
 use Rattle.sequential_run.proofs.course.Course.turn.Goals as goal
 
 pub returns-in_err-exchange-clause-gone : goal.returns-in_err-exchange-clause-gone
-returns-in_err-exchange-clause-gone c =
-    let p = err_from_is_err_and c.from_residual.result c.from_residual.ensures.1 in
-    rw (p.1, p.2) (exchange_refused c.args.budget c.args.self.now c.in-Some.at _ c.in-Some.is
-    (search rules) c.in_err-exchange.ensures.answer.0 c.in_err-exchange.ensures.answer.1)
+returns-in_err-exchange-clause-gone c = grind (arith, exchange_refused, err_from_is_err_and)
 
 pub returns-clause-gone : goal.returns-clause-gone
 returns-clause-gone c = exchange_goes c.args.budget c.args.self.now _ c.in-Some.at c.in-Some.is
