@@ -4,15 +4,15 @@ use Rattle.std.proofs.Common.{Some, None, refl, sym, ap, ◌∙◌, subst, get_o
 use Rattle.std.specs.Prelude.{Err, Ok}
 use Rattle.std.specs.List.{list_any, position, position_or_len, remove}
 use Rattle.std.proofs.lemmas.Bool.{eqb-true, ltb-false}
-use Rattle.std.proofs.lemmas.List.{get_or-take, length-set, length-take-le, take-append-drop}
+use Rattle.std.proofs.lemmas.List.{get_or-take, length-take-le, take-append-drop}
 use Rattle.std.proofs.lemmas.List.Quantifiers.{position-Some}
 use Rattle.std.proofs.lemmas.List.Sums.{fails_before_first}
 use Rattle.std.proofs.Math.Seq.{drop-cons}
 use Rattle.instructions.specs.declared.refusal.Refusal.TheVariants.{BankBusy, OlderAtAddress}
-use Rattle.instructions.specs.Each.{Each, Pairs}
+use Rattle.instructions.specs.Each.{Each}
 use Rattle.instructions.specs.Finding.{Found, seek, put_back}
 use Rattle.instructions.proofs.Finding.{seek_around, seek_nobody}
-use Rattle.instructions.proofs.Lists.{each_append, each_left, each_right, pairs_push, pairs_without}
+use Rattle.instructions.proofs.Lists.{each_append, pairs_push}
 use Rattle.hopper.specs.declared.entered.Entered.{Entered}
 use Rattle.hopper.specs.declared.reference.Reference.{Reference}
 use Rattle.hopper.specs.Hopper.{bank_of}
@@ -62,9 +62,7 @@ nothing_found p (e ∷ es) h =
 
 parted : (es : List Entered) (i : ℕ) (e : Entered) → i < length es → e ≡ get_or es i e
     → es ≡ take i es ++ e ∷ drop (suc i) es
-parted es i e l h =
-    sym (take-append-drop i es)
-    ∙ ap (λ xs. take i es ++ xs) (drop-cons es i e l ∙ ap (λ x. x ∷ drop (suc i) es) (sym h))
+parted es i e l h = grind (arith, take-append-drop, drop-cons)
 
 here_found : (p : ℕ) (e : Entered) → stands_at p e ≡ true
     → (e.place ≡ p) × (reference_at p e ≡ Some e.reference)
@@ -104,25 +102,14 @@ pub bank_refused : (busy : List Bool) (o : Option (Found Entered Reference)) (f 
     → o ≡ Some f → bank ≡ bank_of f.answer.address → get_or busy bank false ≡ true
     → accept_answer busy o ≡ Err (BankBusy bank)
 unfolding accept_answer
-bank_refused busy o f bank e b h =
-    ap (accept_answer busy) e
-    ∙ ap (λ n. cond (get_or busy n false) (Err (BankBusy n))
-    (cond (list_any (holds_back f.answer) f.earlier) (Err OlderAtAddress) (Ok f.answer))) (sym b)
-    ∙ ap (λ t. cond t (Err (BankBusy bank))
-    (cond (list_any (holds_back f.answer) f.earlier) (Err OlderAtAddress) (Ok f.answer))) h
+bank_refused busy o f bank e b h = cc
 
 pub order_judged : (busy : List Bool) (o : Option (Found Entered Reference)) (f : Found Entered Reference) (bank : ℕ)
     (held : Bool) → o ≡ Some f → bank ≡ bank_of f.answer.address → get_or busy bank false ≡ false
     → list_any (holds_back f.answer) f.earlier ≡ held
     → accept_answer busy o ≡ cond held (Err OlderAtAddress) (Ok f.answer)
 unfolding accept_answer
-order_judged busy o f bank held e b h k =
-    ap (accept_answer busy) e
-    ∙ ap (λ n. cond (get_or busy n false) (Err (BankBusy n))
-    (cond (list_any (holds_back f.answer) f.earlier) (Err OlderAtAddress) (Ok f.answer))) (sym b)
-    ∙ ap (λ t. cond t (Err (BankBusy bank))
-    (cond (list_any (holds_back f.answer) f.earlier) (Err OlderAtAddress) (Ok f.answer))) h
-    ∙ ap (λ t. cond t (Err OlderAtAddress) (Ok f.answer)) k
+order_judged busy o f bank held e b h k = cc
 
 -- ---- one leaves ----
 
@@ -130,20 +117,4 @@ pub accepted_view : (es : List Entered) (busy : List Bool) (p i bank : ℕ) (ref
     (o : Option (Found Entered Reference)) → o ≡ Some (found_at es p i reference) → bank ≡ bank_of reference.address
     → record { entered = remove es i; busy = set busy bank true } ≡ accepted (record { entered = es; busy = busy }) o
 unfolding accepted put_back
-accepted_view es busy p i bank reference o e b =
-    ap (λ n. record { entered = remove es i; busy = set busy n true }) b
-    ∙ ap (accepted (record { entered = es; busy = busy })) (sym e)
-
-pub left_right : (es : List Entered) (busy : List Bool) (i bank : ℕ) (e : Entered) → i < length es → e ≡ get_or es i e
-    → IsRight es busy → IsRight (remove es i) (set busy bank true)
-left_right es busy i bank e l h r =
-    let split = parted es i e l h in
-    let p = subst (Each (λ d. d.place < 4)) split r.placed in
-    record {
-      all_banks = length-set busy bank true ∙ r.all_banks;
-      placed = each_append (λ d. d.place < 4) (take i es) (drop (suc i) es)
-          (each_left (λ d. d.place < 4) (take i es) (e ∷ drop (suc i) es) p)
-          (each_right (λ d. d.place < 4) (take i es) (e ∷ drop (suc i) es) p).1;
-      apart = pairs_without (λ c d. c.place ≢ d.place) (take i es) e (drop (suc i) es)
-          (subst (Pairs (λ c d. c.place ≢ d.place)) split r.apart);
-    }
+accepted_view es busy p i bank reference o e b = cc

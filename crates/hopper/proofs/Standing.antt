@@ -14,8 +14,7 @@ use Rattle.hopper.specs.Queue.{stands_at, is_taken, place_for}
 pub first_same : (f g : ℕ → Bool) → ((p : ℕ) → f p ≡ g p) → (ps : List ℕ) → first_place f ps ≡ first_place g ps
 unfolding first_place
 first_same f g h [] = refl
-first_same f g h (p ∷ ps) = ap (λ b. cond b (first_place f ps) (Some p)) (h p)
-    ∙ ap (λ o. cond (g p) o (Some p)) (first_same f g h ps)
+first_same f g h (p ∷ ps) = grind (arith, first_same f g h ps)
 
 first_free : (f : ℕ → Bool) (P : ℕ → Type 0) (ps : List ℕ) (p : ℕ) → Each P ps → first_place f ps ≡ Some p
     → P p × (f p ≡ false)
@@ -36,10 +35,6 @@ place_free es p h =
     (omega arith, (omega arith, (omega arith, (omega arith, tt)))) h in
     (r.0, each_of_any (stands_at p) (λ e. e.place ≢ p) (λ e. eqb-false e.place p) es r.1)
 
-taken_first : (f : ℕ → Bool) (p : ℕ) (ps : List ℕ) → f p ≡ true → first_place f (p ∷ ps) ≡ first_place f ps
-unfolding first_place
-taken_first f p ps h = ap (λ b. cond b (first_place f ps) (Some p)) h
-
 free_first : (f : ℕ → Bool) (p : ℕ) (ps : List ℕ) → f p ≡ false → first_place f (p ∷ ps) ≡ Some p
 unfolding first_place
 free_first f p ps h = ap (λ b. cond b (first_place f ps) (Some p)) h
@@ -52,21 +47,11 @@ FindsFree f r = MatchOption r ((k : ℕ) → 0 ≤ k → k < 4 → f k ≡ true)
 -- the search finds the lowest-numbered free place
 pub found_is : (f : ℕ → Bool) (r : Option ℕ) → FindsFree f r → r ≡ free_place f
 unfolding free_place first_place
-found_is f None h = sym
-    (taken_first f 0 (1 ∷ 2 ∷ 3 ∷ []) (h 0 (omega arith) (omega arith))
-    ∙ taken_first f 1 (2 ∷ 3 ∷ []) (h 1 (omega arith) (omega arith))
-    ∙ taken_first f 2 (3 ∷ []) (h 2 (omega arith) (omega arith))
-    ∙ taken_first f 3 [] (h 3 (omega arith) (omega arith)))
+found_is f None h = grind arith
 found_is f (Some zero) h = sym (free_first f 0 (1 ∷ 2 ∷ 3 ∷ []) h.2)
-found_is f (Some (suc zero)) h = sym
-    (taken_first f 0 (1 ∷ 2 ∷ 3 ∷ []) (h.3 0 (omega arith) (omega arith)) ∙ free_first f 1 (2 ∷ 3 ∷ []) h.2)
-found_is f (Some (suc (suc zero))) h = sym
-    (taken_first f 0 (1 ∷ 2 ∷ 3 ∷ []) (h.3 0 (omega arith) (omega arith))
-    ∙ taken_first f 1 (2 ∷ 3 ∷ []) (h.3 1 (omega arith) (omega arith)) ∙ free_first f 2 (3 ∷ []) h.2)
-found_is f (Some (suc (suc (suc zero)))) h = sym
-    (taken_first f 0 (1 ∷ 2 ∷ 3 ∷ []) (h.3 0 (omega arith) (omega arith))
-    ∙ taken_first f 1 (2 ∷ 3 ∷ []) (h.3 1 (omega arith) (omega arith))
-    ∙ taken_first f 2 (3 ∷ []) (h.3 2 (omega arith) (omega arith)) ∙ free_first f 3 [] h.2)
+found_is f (Some (suc zero)) h = grind arith
+found_is f (Some (suc (suc zero))) h = grind arith
+found_is f (Some (suc (suc (suc zero)))) h = grind arith
 found_is f (Some (suc (suc (suc (suc n))))) h = absurd (omega (arith, h.1))
 
 -- ---- how many are taken ----
@@ -105,31 +90,17 @@ none_free : (a b c d : Bool)
     ≡ eqb (one a + one b + one c + one d) 4
 none_free true true true true = refl
 none_free true true true false = refl
-none_free true true false d =
-    let h = one_at_most d in sym (ne_eqb (one true + one true + one false + one d) 4 (λ e. omega (arith, h, e)))
-none_free true false c d =
-    let h = one_at_most c in let k = one_at_most d in
-    sym (ne_eqb (one true + one false + one c + one d) 4 (λ e. omega (arith, h, k, e)))
-none_free false b c d =
-    let h = one_at_most b in let k = one_at_most c in let l = one_at_most d in
-    sym (ne_eqb (one false + one b + one c + one d) 4 (λ e. omega (arith, h, k, l, e)))
+none_free true true false d = grind arith
+none_free true false c d = grind arith
+none_free false b c d = grind arith
 
 -- if four references wait, all places are taken
 pub full_is : (es : List Entered) → Each (λ e. e.place < 4) es → Pairs (λ d e. d.place ≢ e.place) es
     → is_none (place_for es) ≡ eqb (length es) 4
 unfolding place_for free_place first_place
-full_is es h d =
-    none_free (is_taken es 0) (is_taken es 1) (is_taken es 2) (is_taken es 3)
-    ∙ ap (λ n. eqb n 4) (taken_counted es h d)
+full_is es h d = simp (none_free, taken_counted)
 
 -- if a place is free, there is room for one more reference
 pub room_for_one : (es : List Entered) (p : ℕ) → Each (λ e. e.place < 4) es → Pairs (λ d e. d.place ≢ e.place) es
     → place_for es ≡ Some p → length es < 4
-room_for_one es p h d e =
-    let c = taken_counted es h d in
-    let i = one_at_most (is_taken es 0) in
-    let j = one_at_most (is_taken es 1) in
-    let k = one_at_most (is_taken es 2) in
-    let l = one_at_most (is_taken es 3) in
-    let f : length es ≢ 4 = eqb-false (length es) 4 (sym (full_is es h d) ∙ ap (λ (o : Option ℕ). is_none o) e) in
-    omega (arith, c, i, j, k, l, f)
+room_for_one es p h d e = grind (arith, taken_counted, one_at_most, full_is, eqb-false)

@@ -1,6 +1,6 @@
 -- The entries of a log, after one is appended or a count is raised.
 use Rattle.std.proofs.Common.{◌≡◌, ◌<◌, ◌≤◌, ◌+◌, ◌-◌, ℕ, zero, suc, true, false, List, [], ◌∷◌, ◌++◌, Some, None}
-use Rattle.std.proofs.Common.{length, refl, sym, ap, subst, ◌∙◌, append_assoc, append-nil, arith}
+use Rattle.std.proofs.Common.{length, refl, sym, ap, ◌∙◌, append_assoc, append-nil, arith}
 use Rattle.std.specs.Prelude.{◌^◌, Bool, if◌then◌else◌, min, replicate, slice_get, slice_set}
 use Rattle.sequential.specs.declared.log.Entry.{Entry}
 use Rattle.sequential.specs.declared.log.Entry.TheVariants.{Issued as Count, Exchange, PpRead, PpWrite}
@@ -21,42 +21,15 @@ pub record IsSingle (x : LogStep) (e : Entry) : Type 0 where
 
 pub an_exchange : (n : ℕ) → IsSingle (Exchanged n) (Exchange n)
 unfolding steps_of entries_of more_after ends_open ends_issuing issued run_after
-an_exchange n = record {
-  steps = λ es. refl;
-  entries = λ xs. refl;
-  alone = λ es. refl;
-  followed = λ k. refl;
-  closed = refl;
-  no_issue = refl;
-  uncounted = λ xs. refl;
-  ends_run = λ n. refl;
-}
+an_exchange n = grind arith
 
 pub a_read : (a : ℕ) → IsSingle (ReadAt a) (PpRead a)
 unfolding steps_of entries_of more_after ends_open ends_issuing issued run_after
-a_read a = record {
-  steps = λ es. refl;
-  entries = λ xs. refl;
-  alone = λ es. refl;
-  followed = λ k. refl;
-  closed = refl;
-  no_issue = refl;
-  uncounted = λ xs. refl;
-  ends_run = λ n. refl;
-}
+a_read a = grind arith
 
 pub a_write : (a w : ℕ) → IsSingle (Wrote a w) (PpWrite a w)
 unfolding steps_of entries_of more_after ends_open ends_issuing issued run_after
-a_write a w = record {
-  steps = λ es. refl;
-  entries = λ xs. refl;
-  alone = λ es. refl;
-  followed = λ k. refl;
-  closed = refl;
-  no_issue = refl;
-  uncounted = λ xs. refl;
-  ends_run = λ n. refl;
-}
+a_write a w = grind arith
 
 pub steps-append : (es fs : List Entry) → steps_of (es ++ fs) ≡ steps_of es ++ steps_of fs
 unfolding steps_of
@@ -104,11 +77,7 @@ opened_by_count es n = open-push es (Count n)
 pub issued-single : (x : LogStep) (e : Entry) → IsSingle x e → (es : List Entry)
     → issued (steps_of (es ++ e ∷ [])) ≡ issued (steps_of es)
 unfolding issued
-issued-single x e s es =
-    ap issued (single_added x e s es)
-    ∙ issued-append (steps_of es) (x ∷ [])
-    ∙ ap (λ k. issued (steps_of es) + k) (s.uncounted [])
-    ∙ (let k : issued (steps_of es) + 0 ≡ issued (steps_of es) = omega arith in k)
+issued-single x e s es = grind (arith, single_added x e s es, issued-append (steps_of es) (x ∷ []))
 
 pub issued-more : (xs : List LogStep) → issued (xs ++ Issued ∷ []) ≡ issued xs + 1
 unfolding issued
@@ -150,10 +119,7 @@ last_run-many xs n = run_after-append 0 xs (replicate n Issued) ∙ run_after-re
 
 pub last_run-single : (x : LogStep) (e : Entry) → IsSingle x e → (es : List Entry)
     → last_run (steps_of (es ++ e ∷ [])) ≡ 0
-last_run-single x e s es =
-    ap last_run (single_added x e s es)
-    ∙ run_after-append 0 (steps_of es) (x ∷ [])
-    ∙ s.ends_run (last_run (steps_of es))
+last_run-single x e s es = grind (arith, single_added x e s es, run_after-append 0 (steps_of es) (x ∷ []))
 
 -- ---- the last entry ----
 
@@ -173,42 +139,25 @@ replicate-sum (suc k) n = ap (λ m. replicate m Issued) (let e : suc k + n ≡ s
 
 more_counted : (k n : ℕ) → steps_of (Count (k + n) ∷ []) ≡ steps_of (Count k ∷ []) ++ replicate n Issued
 unfolding steps_of
-more_counted k n =
-    append-nil (replicate (k + n) Issued)
-    ∙ replicate-sum k n
-    ∙ ap (λ l. l ++ replicate n Issued) (sym (append-nil (replicate k Issued)))
+more_counted k n = simp (replicate-sum, append-nil)
 
 -- the steps after the last count was raised by n
 pub raised_steps : (es : List Entry) (i k n : ℕ) → length es ≡ suc i → slice_get es i ≡ Some (Count k)
     → steps_of (slice_set es i (Count (k + n))) ≡ steps_of es ++ replicate n Issued
-raised_steps es i k n l h =
-    let r = ends_at es i (Count k) l h in
-    ap steps_of (r.2 (Count (k + n)))
-    ∙ steps-append r.0 (Count (k + n) ∷ [])
-    ∙ ap (λ t. steps_of r.0 ++ t) (more_counted k n)
-    ∙ sym (append_assoc (steps_of r.0) (steps_of (Count k ∷ [])) (replicate n Issued))
-    ∙ ap (λ t. t ++ replicate n Issued) (sym (steps-append r.0 (Count k ∷ [])) ∙ ap steps_of (sym r.1))
+raised_steps es i k n l h = grind (arith, ends_at, steps-append, more_counted, append_assoc)
 
 pub raised_open : (es : List Entry) (i k n : ℕ) → length es ≡ suc i → slice_get es i ≡ Some (Count k)
     → ends_open (slice_set es i (Count (k + n))) ≡ true
-raised_open es i k n l h =
-    let r = ends_at es i (Count k) l h in
-    ap ends_open (r.2 (Count (k + n))) ∙ opened_by_count r.0 (k + n)
+raised_open es i k n l h = grind (arith, ends_at, opened_by_count)
 
 -- the last entry, if it is a count, counts the instructions at the end
 pub count_last : (es : List Entry) (i n : ℕ) → length es ≡ suc i → slice_get es i ≡ Some (Count n)
     → n ≤ last_run (steps_of es)
-count_last es i n l h =
-    let r = ends_at es i (Count n) l h in
-    let e : last_run (steps_of es) ≡ last_run (steps_of r.0) + n =
-    ap (λ l. last_run (steps_of l)) r.1 ∙ ap last_run (count_added r.0 n) ∙ last_run-many (steps_of r.0) n in
-    omega (arith, e)
+count_last es i n l h = grind (arith, ends_at, count_added, last_run-many)
 
 pub open_at_count : (es : List Entry) (i n : ℕ) → length es ≡ suc i → slice_get es i ≡ Some (Count n)
     → ends_open es ≡ true
-open_at_count es i n l h =
-    let r = ends_at es i (Count n) l h in
-    ap ends_open r.1 ∙ opened_by_count r.0 n
+open_at_count es i n l h = grind (arith, ends_at, opened_by_count)
 
 -- the list has no last element
 pub none_last : (es : List Entry) → slice_get es (length es - 1) ≡ None → ends_open es ≡ false
@@ -235,27 +184,18 @@ last_place es e h = let k = read_within es (length es - 1) e h in omega (arith, 
 
 closed_alone : (e : Entry) → ((n : ℕ) → e ≡ Count n → ⊥) → ends_open (e ∷ []) ≡ false
 unfolding ends_open
-closed_alone (Count n) h = absurd (h n refl)
-closed_alone (Exchange n) h = refl
-closed_alone (PpRead a) h = refl
-closed_alone (PpWrite a w) h = refl
+closed_alone e h = grind arith
 
 -- a last entry that is no count
 pub closed_at_last : (es : List Entry) (e : Entry) → slice_get es (length es - 1) ≡ Some e
     → ((n : ℕ) → e ≡ Count n → ⊥) → ends_open es ≡ false
-closed_at_last es e h other =
-    let r = ends_at es (length es - 1) e (last_place es e h) h in
-    ap ends_open r.1 ∙ open-push r.0 e ∙ closed_alone e other
+closed_at_last es e h other = grind (arith, ends_at, last_place, open-push, closed_alone)
 
 -- ---- the shortest entries ----
 
 single_past : (x : LogStep) (e : Entry) → IsSingle x e → (es : List Entry)
     → one_before (es ++ e ∷ []) ≡ one_before es ++ e ∷ []
-single_past x e s [] = s.alone []
-single_past x e s (Count k ∷ es) = refl
-single_past x e s (Exchange k ∷ es) = refl
-single_past x e s (PpRead a ∷ es) = refl
-single_past x e s (PpWrite a w ∷ es) = refl
+single_past x e s es = grind arith
 
 pub shortest_single : (x : LogStep) (e : Entry) → IsSingle x e → (steps : List LogStep)
     → entries_of (steps ++ x ∷ []) ≡ entries_of steps ++ e ∷ []
@@ -267,23 +207,9 @@ shortest_single x e s (Exchanged k ∷ steps) = ap (λ l. Exchange k ∷ l) (sho
 shortest_single x e s (ReadAt a ∷ steps) = ap (λ l. PpRead a ∷ l) (shortest_single x e s steps)
 shortest_single x e s (Wrote a w ∷ steps) = ap (λ l. PpWrite a w ∷ l) (shortest_single x e s steps)
 
-past_single : (x : LogStep) (e : Entry) → IsSingle x e → (n : ℕ) (es : List Entry)
-    → e ∷ more_after n es ≡ more_after n (e ∷ es)
-unfolding more_after
-past_single x e s n [] = sym (s.followed n)
-past_single x e s n (f ∷ es) = refl
-
 before_and_after : (n : ℕ) (es : List Entry) → one_before (more_after n es) ≡ more_after n (one_before es)
 unfolding more_after
-before_and_after n [] = ap (λ k. Count k ∷ []) (let e : n + 1 ≡ 1 + n = omega arith in e)
-before_and_after n (Count k ∷ []) = ap (λ m. Count m ∷ []) (let e : k + n + 1 ≡ k + 1 + n = omega arith in e)
-before_and_after n (Exchange k ∷ []) = refl
-before_and_after n (PpRead a ∷ []) = refl
-before_and_after n (PpWrite a w ∷ []) = refl
-before_and_after n (Count k ∷ e ∷ es) = refl
-before_and_after n (Exchange k ∷ e ∷ es) = refl
-before_and_after n (PpRead a ∷ e ∷ es) = refl
-before_and_after n (PpWrite a w ∷ e ∷ es) = refl
+before_and_after n es = grind arith
 
 entries_of_issues : (n : ℕ) → entries_of (replicate (suc n) Issued) ≡ Count (suc n) ∷ []
 unfolding entries_of
@@ -297,15 +223,9 @@ unfolding entries_of more_after
 shortest_issues [] n = entries_of_issues n
 shortest_issues (Issued ∷ steps) n =
     ap one_before (shortest_issues steps n) ∙ before_and_after (suc n) (entries_of steps)
-shortest_issues (Exchanged k ∷ steps) n =
-    ap (λ l. Exchange k ∷ l) (shortest_issues steps n)
-    ∙ past_single (Exchanged k) (Exchange k) (an_exchange k) (suc n) (entries_of steps)
-shortest_issues (ReadAt a ∷ steps) n =
-    ap (λ l. PpRead a ∷ l) (shortest_issues steps n)
-    ∙ past_single (ReadAt a) (PpRead a) (a_read a) (suc n) (entries_of steps)
-shortest_issues (Wrote a w ∷ steps) n =
-    ap (λ l. PpWrite a w ∷ l) (shortest_issues steps n)
-    ∙ past_single (Wrote a w) (PpWrite a w) (a_write a w) (suc n) (entries_of steps)
+shortest_issues (Exchanged k ∷ steps) n = grind (arith, shortest_issues steps n)
+shortest_issues (ReadAt a ∷ steps) n = grind (arith, shortest_issues steps n)
+shortest_issues (Wrote a w ∷ steps) n = grind (arith, shortest_issues steps n)
 
 last_after : (before : List Entry) (k n : ℕ) → more_after n (before ++ Count k ∷ []) ≡ before ++ Count (k + n) ∷ []
 unfolding more_after
@@ -319,9 +239,7 @@ last_after (e ∷ f ∷ es) k n = ap (λ l. e ∷ l) (last_after (f ∷ es) k n)
 -- the entries after the last count was raised by n
 pub raised_after : (es : List Entry) (i k n : ℕ) → length es ≡ suc i → slice_get es i ≡ Some (Count k)
     → slice_set es i (Count (k + n)) ≡ more_after n es
-raised_after es i k n l h =
-    let r = ends_at es i (Count k) l h in
-    r.2 (Count (k + n)) ∙ sym (last_after r.0 k n) ∙ ap (more_after n) (sym r.1)
+raised_after es i k n l h = grind (arith, ends_at, last_after)
 
 -- the entries after a new count was appended
 pub added_after : (es : List Entry) (n : ℕ) → ends_open es ≡ false → es ++ Count n ∷ [] ≡ more_after n es
@@ -336,9 +254,7 @@ added_after (e ∷ f ∷ es) n h = ap (λ l. e ∷ l) (added_after (f ∷ es) n 
 -- the entries remain the shortest ones for their steps
 pub shortest_after_issues : (es fs : List Entry) (n : ℕ) → 0 < n → es ≡ entries_of (steps_of es) → fs ≡ more_after n es
     → steps_of fs ≡ steps_of es ++ replicate n Issued → fs ≡ entries_of (steps_of fs)
-shortest_after_issues es fs zero z h p q = absurd (omega (arith, z))
-shortest_after_issues es fs (suc n) z h p q =
-    p ∙ ap (more_after (suc n)) h ∙ sym (shortest_issues (steps_of es) n) ∙ ap entries_of (sym q)
+shortest_after_issues es fs n z h p q = grind (arith, shortest_issues)
 
 pub shortest_after_single : (x : LogStep) (e : Entry) → IsSingle x e → (es fs : List Entry)
     → es ≡ entries_of (steps_of es) → fs ≡ es ++ e ∷ [] → fs ≡ entries_of (steps_of fs)
@@ -361,24 +277,11 @@ an_entry (Exchanged n) steps = (Exchange n, entries_of steps, refl)
 an_entry (ReadAt a) steps = (PpRead a, entries_of steps, refl)
 an_entry (Wrote a w) steps = (PpWrite a w, entries_of steps, refl)
 
-open_before : (e : Entry) (es : List Entry) → ends_open (one_before (e ∷ es)) ≡ ends_open (e ∷ es)
-unfolding ends_open
-open_before (Count n) [] = refl
-open_before (Exchange n) [] = refl
-open_before (PpRead a) [] = refl
-open_before (PpWrite a w) [] = refl
-open_before (Count n) (f ∷ es) = refl
-open_before (Exchange n) (f ∷ es) = refl
-open_before (PpRead a) (f ∷ es) = refl
-open_before (PpWrite a w) (f ∷ es) = refl
-
 open_past : (e : Entry) (s : LogStep) (steps : List LogStep) → ends_open (entries_of (s ∷ steps)) ≡ ends_issuing
     (s ∷ steps)
     → ends_open (e ∷ entries_of (s ∷ steps)) ≡ ends_issuing (s ∷ steps)
 unfolding ends_open
-open_past e s steps h =
-    let r = an_entry s steps in
-    ap (λ l. ends_open (e ∷ l)) r.2 ∙ ap ends_open (sym r.2) ∙ h
+open_past e s steps h = grind (arith, an_entry s steps)
 
 shortest_open : (steps : List LogStep) → ends_open (entries_of steps) ≡ ends_issuing steps
 unfolding ends_open ends_issuing entries_of
@@ -387,9 +290,7 @@ shortest_open (Issued ∷ []) = refl
 shortest_open (Exchanged n ∷ []) = refl
 shortest_open (ReadAt a ∷ []) = refl
 shortest_open (Wrote a w ∷ []) = refl
-shortest_open (Issued ∷ s ∷ steps) =
-    let r = an_entry s steps in
-    ap (λ l. ends_open (one_before l)) r.2 ∙ open_before r.0 r.1 ∙ ap ends_open (sym r.2) ∙ shortest_open (s ∷ steps)
+shortest_open (Issued ∷ s ∷ steps) = grind (arith, shortest_open (s ∷ steps))
 shortest_open (Exchanged n ∷ s ∷ steps) = open_past (Exchange n) s steps (shortest_open (s ∷ steps))
 shortest_open (ReadAt a ∷ s ∷ steps) = open_past (PpRead a) s steps (shortest_open (s ∷ steps))
 shortest_open (Wrote a w ∷ s ∷ steps) = open_past (PpWrite a w) s steps (shortest_open (s ∷ steps))
@@ -402,9 +303,7 @@ open_as_issuing es h = ap ends_open h ∙ shortest_open (steps_of es)
 pub room_for_count : (es : List Entry) (log : Logged) (spare : ℕ) → es ≡ entries_of (steps_of es)
     → record { steps = steps_of es; room = spare } ≡ log → (ends_issuing log.steps ≡ false → 0 < log.room)
     → ends_open es ≡ false → 0 < spare
-room_for_count es log spare h e asked closed =
-    subst (λ (l : Logged). ends_issuing l.steps ≡ false → 0 < l.room) (sym e) asked
-    (sym (open_as_issuing es h) ∙ closed)
+room_for_count es log spare h e asked closed = grind (arith, open_as_issuing)
 
 spent : (is_open : Bool) (length capacity new : ℕ) → new ≡ length + (if is_open then 0 else 1)
     → (is_open ≡ false → 0 < capacity - length)
@@ -417,10 +316,7 @@ pub room_after_count : (es : List Entry) (log : Logged) (length capacity new : �
     → record { steps = steps_of es; room = capacity - length } ≡ log
     → (ends_issuing log.steps ≡ false → 0 < log.room) → new ≡ length + (if ends_open es then 0 else 1)
     → capacity - new + (if ends_issuing log.steps then 0 else 1) ≡ log.room
-room_after_count es log length capacity new h e asked k =
-    subst (λ (l : Logged). capacity - new + (if ends_issuing l.steps then 0 else 1) ≡ l.room) e
-    (ap (λ b. capacity - new + (if b then 0 else 1)) (sym (open_as_issuing es h))
-    ∙ spent (ends_open es) length capacity new k (room_for_count es log (capacity - length) h e asked))
+room_after_count es log length capacity new h e asked k = grind (arith, open_as_issuing, spent, room_for_count)
 
 pub issuing_no_more : (x : LogStep) (e : Entry) → IsSingle x e → (steps : List LogStep)
     → ends_issuing (steps ++ x ∷ []) ≡ false
@@ -448,21 +344,9 @@ pub record IsCounted (issues : ℕ) (steps : List LogStep) : Type 0 where
 pub counted_more : (issues new : ℕ) (xs ys : List LogStep) (n : ℕ) → issues ≡ min (issued xs) (2 ^ 64 - 1)
     → last_run xs ≤ issues → last_run xs + n < 2 ^ 64 → ys ≡ xs ++ replicate n Issued
     → new ≡ min (issues + n) (2 ^ 64 - 1) → IsCounted new ys
-counted_more issues new xs ys n c r h e k =
-    let a : issued ys ≡ issued xs + n = ap issued e ∙ issued-many xs n in
-    let b : last_run ys ≡ last_run xs + n = ap last_run e ∙ last_run-many xs n in
-    record {
-      count = omega (arith, a, c, k);
-      run = omega (arith, b, r, h, k);
-    }
+counted_more issues new xs ys n c r h e k = grind (arith, issued-many, last_run-many)
 
 -- the count after an entry that is no count
 pub counted_single : (x : LogStep) (e : Entry) → IsSingle x e → (issues : ℕ) (es fs : List Entry)
     → issues ≡ min (issued (steps_of es)) (2 ^ 64 - 1) → fs ≡ es ++ e ∷ [] → IsCounted issues (steps_of fs)
-counted_single x e s issues es fs c p =
-    let b : last_run (steps_of fs) ≡ 0 = ap (λ l. last_run (steps_of l)) p ∙ last_run-single x e s es in
-    record {
-      count = c ∙ ap (λ n. min n (2 ^ 64 - 1))
-          (sym (issued-single x e s es) ∙ ap (λ l. issued (steps_of l)) (sym p));
-      run = omega (arith, b);
-    }
+counted_single x e s issues es fs c p = grind (arith, last_run-single x e s es, issued-single x e s es)

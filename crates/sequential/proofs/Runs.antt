@@ -2,21 +2,17 @@
 use Rattle.std.specs.Prelude.{option_and_then}
 use Rattle.std.proofs.Common.{◌≡◌, ◌<◌, ◌≤◌, ◌+◌, ◌-◌, ℕ, zero, suc, true, false, cond, List, [], ◌∷◌, ◌++◌, Option}
 use Rattle.std.proofs.Common.{Some, None, length, take, drop, get_or, is_some, refl, sym, ap, ◌∙◌, append_assoc}
-use Rattle.std.proofs.Common.{Bool, append-nil, add-one, arith, ltb}
+use Rattle.std.proofs.Common.{Bool, append-nil, add-one, arith}
 use Rattle.std.specs.Prelude.{replicate, Result, Ok, Err, MatchResult, OnOk, IfErr}
-use Rattle.relocation.specs.Relocation.{package_fits}
 use Rattle.instructions.specs.declared.refusal.Halt.{Halt}
 use Rattle.instructions.specs.declared.refusal.Refusal.{Refusal}
-use Rattle.instructions.specs.declared.refusal.Refusal.TheVariants.{PackageRange, PeripheralRange}
 use Rattle.sequential.specs.declared.log.Entry.{Entry}
 use Rattle.sequential.specs.declared.log.Entry.TheVariants.{Issued as Count}
 use Rattle.sequential.specs.declared.state.State.{State}
 use Rattle.sequential.specs.Log.{steps_of}
-use Rattle.sequential.specs.Replay.{LogStep, Issued, Exchanged, ReadAt, Wrote, IsRefusedAt, do_log_step, replay}
+use Rattle.sequential.specs.Replay.{LogStep, Issued, IsRefusedAt, do_log_step, replay}
 use Rattle.sequential.specs.Replay.{step_refusal}
-use Rattle.sequential.specs.State.{store_word}
 use Rattle.sequential.specs.Step.{step, step_unless}
-use Rattle.sequential.specs.Swap.{swap}
 use Rattle.sequential.proofs.Entries.{steps-append}
 
 -- ---- a halted machine ----
@@ -31,11 +27,7 @@ halted_by s zero h e = refl
 halted_by s (suc n) h e = ap (λ t. replay t (replicate n Issued)) (step_halted s h e) ∙ halted_by s n h e
 
 pub halted_run : (s : State) (n : ℕ) → is_some s.halt ≡ true → replay s (replicate n Issued) ≡ Some s
-halted_run s n e = by_halt s.halt refl e
-  where
-    by_halt : (o : Option Halt) → s.halt ≡ o → is_some o ≡ true → replay s (replicate n Issued) ≡ Some s
-    by_halt None k h = cc
-    by_halt (Some x) k h = halted_by s n x k
+halted_run s n e = grind (arith, halted_by, is_some)
 
 -- ---- one step of a run ----
 
@@ -72,11 +64,7 @@ pub single_answered : {K : Type 0} (r : Result K Refusal) (s t v : State) (x : L
     → MatchResult r (λ y. b ≡ true) (λ refusal. (b ≡ false) × (refusal ≡ k))
     → MatchResult r (λ y. t ≡ v) (λ refusal. t ≡ s) → OnOk r (replay s (steps_of (e ∷ [])) ≡ Some t)
 unfolding replay
-single_answered (Ok y) s t v x e b k m d a h =
-    ap (replay s) m
-    ∙ ap (λ o. option_and_then (λ u. Some u) o) (d ∙ ap (λ c. cond c (Some v) None) a)
-    ∙ ap Some (sym h)
-single_answered (Err y) s t v x e b k m d a h = tt
+single_answered r s t v x e b k m d a h = grind arith
 
 pub single_refused : {K : Type 0} (r : Result K Refusal) (s t v : State) (x : LogStep) (e : Entry) (b : Bool)
     (k : Refusal) → steps_of (e ∷ []) ≡ x ∷ [] → step_refusal (length s.memory) x ≡ cond b None (Some k)
@@ -123,12 +111,7 @@ split_steps : (es : List Entry) (i : ℕ) (d : Entry) → i < length es → step
 unfolding steps_of
 split_steps [] i d h = absurd (omega (arith, h))
 split_steps (e ∷ es) zero d h = steps-append (e ∷ []) es
-split_steps (e ∷ es) (suc i) d h =
-    steps-append (e ∷ []) es
-    ∙ ap (λ l. steps_of (e ∷ []) ++ l) (split_steps es i d (omega (arith, h)))
-    ∙ sym (append_assoc (steps_of (e ∷ [])) (steps_of (take i es)) _)
-    ∙ ap (λ l. l ++ (steps_of (get_or es i d ∷ []) ++ steps_of (drop (suc i) es)))
-    (sym (steps-append (e ∷ []) (take i es)))
+split_steps (e ∷ es) (suc i) d h = grind (arith, split_steps es i d (omega (arith, h)), steps-append, append_assoc)
 
 pub taken_steps : (es : List Entry) (i : ℕ) (d : Entry) → i < length es → steps_of (take (suc i) es) ≡ steps_of
     (take i es)
@@ -136,11 +119,7 @@ pub taken_steps : (es : List Entry) (i : ℕ) (d : Entry) → i < length es → 
 unfolding steps_of
 taken_steps [] i d h = absurd (omega (arith, h))
 taken_steps (e ∷ es) zero d h = refl
-taken_steps (e ∷ es) (suc i) d h =
-    steps-append (e ∷ []) (take (suc i) es)
-    ∙ ap (λ l. steps_of (e ∷ []) ++ l) (taken_steps es i d (omega (arith, h)))
-    ∙ sym (append_assoc (steps_of (e ∷ [])) (steps_of (take i es)) _)
-    ∙ ap (λ l. l ++ steps_of (get_or es i d ∷ [])) (sym (steps-append (e ∷ []) (take i es)))
+taken_steps (e ∷ es) (suc i) d h = grind (arith, taken_steps es i d (omega (arith, h)), steps-append, append_assoc)
 
 pub replay_begun : (s : State) (es : List Entry) → replay s (steps_of (take 0 es)) ≡ Some s
 unfolding replay steps_of
@@ -158,27 +137,15 @@ replay_more s t u es i d e l k h j =
 
 -- ---- a refused step ----
 
-unfit : (b : Bool) (j k : Refusal) → cond b None (Some j) ≡ Some k → b ≡ false
-unfit true j k h = cc
-unfit false j k h = refl
-
 refused_step : (s : State) (x : LogStep) (k : Refusal) → step_refusal (length s.memory) x ≡ Some k
     → do_log_step s x ≡ None
 unfolding do_log_step step_refusal
-refused_step s Issued k h = cc
-refused_step s (Exchanged n) k h =
-    ap (λ b. cond b (Some (swap n s)) None) (unfit (package_fits n (length s.memory)) PackageRange k h)
-refused_step s (ReadAt a) k h = ap (λ b. cond b (Some s) None) (unfit (ltb a (length s.memory)) PeripheralRange k h)
-refused_step s (Wrote a w) k h =
-    ap (λ b. cond b (Some (store_word s a w)) None) (unfit (ltb a (length s.memory)) PeripheralRange k h)
+refused_step s x k h = grind arith
 
 -- a replay with a refused step reaches no state
 pub refused_replay : (s t : State) (xs : List LogStep) (k : Refusal) → IsRefusedAt s xs t k → replay s xs ≡ None
 unfolding replay
-refused_replay s t xs k r =
-    ap (replay s) r.steps_are
-    ∙ replay_on s t r.before (r.at ∷ r.after) r.reached
-    ∙ ap (λ o. option_and_then (λ u. replay u r.after) o) (refused_step t r.at k r.refused)
+refused_replay s t xs k r = cc (replay_on s t r.before (r.at ∷ r.after) r.reached, refused_step t r.at k r.refused)
 
 -- the entry of the list that is refused
 pub refused_at : (s t u : State) (es : List Entry) (xs : List LogStep) (i : ℕ) (d e : Entry) (k : Refusal)

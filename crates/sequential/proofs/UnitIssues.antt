@@ -1,25 +1,15 @@
 -- The instructions of a log that go to a unit, counted step by step.
 use Rattle.std.specs.Prelude.{option_and_then}
-use Rattle.std.proofs.Common.{◌≡◌, ◌+◌, List, [], ◌∷◌, ◌++◌, Option, Some, None, refl, ap, arith}
-use Rattle.std.proofs.lemmas.Option.{same_Some}
+use Rattle.std.proofs.Common.{◌≡◌, ◌+◌, List, [], ◌∷◌, ◌++◌, Option, Some, None, arith}
 use Rattle.sequential.specs.declared.state.State.{State}
 use Rattle.sequential.specs.Replay.{LogStep, do_log_step, replay}
 use Rattle.sequential.specs.UnitIssues.{taken_at, then_taken, taken}
-
-then_none : (o : Option State) → then_taken o (λ t. 0) ≡ 0
-unfolding then_taken
-then_none None = refl
-then_none (Some s) = refl
 
 -- one more step after a replay that reached a state
 pub taken-push : (s t : State) (xs : List LogStep) (x : LogStep) → replay s xs ≡ Some t
     → taken s (xs ++ x ∷ []) ≡ taken s xs + taken_at t x
 unfolding taken replay then_taken
-taken-push s t [] x h =
-    let e : s ≡ t = same_Some s t h in
-    let n = then_none (do_log_step s x) in
-    let c = ap (λ z. taken_at z x) e in
-    omega (arith, n, c)
+taken-push s t [] x h = grind arith
 taken-push s t (y ∷ ys) x h = behind (do_log_step s y) (λ u. taken-push u t ys x) h
   where
     behind : (o : Option State)

@@ -24,6 +24,7 @@ pub enum Entry {
 }
 
 /// Adds `more` instructions to the last entry if it is a count, and otherwise as a new entry.
+#[tactic(auto, using(crate::proofs::Entries::count_last, crate::proofs::Entries::raised_steps, crate::proofs::Entries::raised_open, crate::proofs::Entries::open_at_count, crate::proofs::Entries::raised_after, crate::proofs::Entries::closed_at_last, crate::proofs::Entries::none_last, crate::proofs::Entries::count_added, crate::proofs::Entries::opened_by_count, crate::proofs::Entries::added_after))]
 fn add(entries: &mut Vec<Entry>, more: u64)
     requires room { ends_open entries.old.items ≡ false → vec_len entries.old < vec_capacity entries.old }
     requires count { last_run (steps_of entries.old.items) + more < 2 ^ 64 }
@@ -160,6 +161,7 @@ impl Log {
     }
 
     /// Appends an instruction: adds 1 to the last entry if it is a count, and otherwise makes a new entry.
+    #[tactic(auto, using(crate::proofs::Entries::room_after_count, crate::proofs::Entries::issuing_after))]
     pub fn issued(&mut self)
         requires room { ends_issuing self.old.steps ≡ false → 0 < self.old.room }
         requires count { last_run self.old.steps + 1 < 2 ^ 64 }

@@ -1,4 +1,4 @@
-use Rattle.std.proofs.Common.{◌≡◌, ◌∙◌, [], true, false, sym}
+use Rattle.std.proofs.Common.{◌≡◌, ◌∙◌, [], true, false, sym, arith}
 use Rattle.std.specs.Prelude.{Result, Ok, Err, IfErr, OnOk, MatchResult}
 use Rattle.std.specs.Result.{is_err}
 use Rattle.instructions.specs.declared.refusal.Refusal.{Refusal}
@@ -27,9 +27,7 @@ loop-entry-init c = replay_begun c.args.state.now []
 
 pub returns-then-is_err-clause-refused : goal.returns-then-is_err-clause-refused
 returns-then-is_err-clause-refused c = refused_as c.replay_entry-answer.result _ _
-    (λ k r. refused_at c.args.state.now c.loop-entry.state c.replay_entry-answer.new.state
-    c.entries-entry-items.result.now c.args.log.now.steps c.loop-entry.entry-index _ _ k c.loop-entry-test.true
-    c.entry-item.is c.entries-entry-items.ensures.steps c.loop-entry.invariant r) c.replay_entry-answer.ensures.refused
+    (λ k r. grind (arith, refused_at)) c.replay_entry-answer.ensures.refused
 
 pub returns-then-is_err-clause-answer : goal.returns-then-is_err-clause-answer
 returns-then-is_err-clause-answer c = refused_answer c.replay_entry-answer.result _ _
@@ -39,8 +37,4 @@ returns-then-is_err-clause-answer c = refused_answer c.replay_entry-answer.resul
     (returns-then-is_err-clause-refused c))
 
 pub loop-entry-preserved : goal.loop-entry-preserved
-loop-entry-preserved c = replay_more c.args.state.now c.loop-entry.state c.replay_entry-answer.new.state
-    c.entries-entry-items.result.now c.loop-entry.entry-index _ _ c.loop-entry-test.true c.entry-item.is
-    c.loop-entry.invariant
-    (answered c.replay_entry-answer.result _ (sym c.is_err.ensures.value ∙ c.if-is_err.false)
-    c.replay_entry-answer.ensures.done)
+loop-entry-preserved c = grind (arith, replay_more, answered)

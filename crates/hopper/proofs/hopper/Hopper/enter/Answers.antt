@@ -1,8 +1,7 @@
 -- An entering reference takes the lowest-numbered free place and becomes the last of the waiting references.
-use Rattle.std.proofs.Common.{◌≡◌, true, false, rules, tests, sym, ap, ◌∙◌, subst, arith}
+use Rattle.std.proofs.Common.{◌≡◌, true, false, rules, tests, sym, ap, ◌∙◌, arith}
 use Rattle.std.proofs.lemmas.Iterator.{first_from_Range}
-use Rattle.hopper.specs.Queue.{Queue, is_taken, place_for, enter_answer}
-use Rattle.hopper.specs.inner.View.{IsRight}
+use Rattle.hopper.specs.Queue.{is_taken, place_for, enter_answer}
 use Rattle.hopper.proofs.Laws.{entered_right}
 use Rattle.hopper.proofs.Standing.{room_for_one, found_is}
 use Rattle.hopper.proofs.hopper.Hopper.enter.Goals as goal
@@ -19,9 +18,7 @@ found c = found_is (is_taken c.as_slice-entered.result.now) c.find.result
 
 pub returns-in_default-clause-answer : goal.returns-in_default-clause-answer
 unfolding enter_answer
-returns-in_default-clause-answer c =
-    ap enter_answer (sym c.in_default.is ∙ found ((goal.at.returns-in_default-clause-answer c).After-find))
-    ∙ ap (λ (q : Queue). enter_answer (place_for q.entered)) c.self.view_is
+returns-in_default-clause-answer c = grind (arith, found)
 
 pub push-requires : goal.push-requires
 push-requires c =
@@ -31,14 +28,8 @@ push-requires c =
     (omega arith, room)
 
 pub invariant_of-self : goal.invariant_of-self
-invariant_of-self c =
-    let free = sym (found ((goal.at.invariant_of-self c).After-find)) ∙ c.in-Some.is in
-    subst (λ es. IsRight es c.self.inside.busy) (sym c.push.ensures.items)
-    (entered_right c.self.inside.entered.items c.self.inside.busy c.in-Some.place c.args.reference c.self.invariant
-    free)
+invariant_of-self c = grind (arith, found, entered_right)
 
 pub returns-clause-answer : goal.returns-clause-answer
 unfolding enter_answer
-returns-clause-answer c =
-    ap enter_answer (sym c.in-Some.is ∙ found ((goal.at.returns-clause-answer c).After-find))
-    ∙ ap (λ (q : Queue). enter_answer (place_for q.entered)) c.self.view_is
+returns-clause-answer c = grind (arith, found)

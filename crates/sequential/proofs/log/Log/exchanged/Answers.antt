@@ -1,6 +1,6 @@
-use Rattle.std.proofs.Common.{ap, ◌∙◌, ◌∷◌, [], ◌++◌}
+use Rattle.std.proofs.Common.{ap, ◌∙◌, arith}
 use Rattle.sequential.specs.declared.log.Entry.TheVariants.{Exchange}
-use Rattle.sequential.specs.Log.{Logged, steps_of, ends_issuing}
+use Rattle.sequential.specs.Log.{ends_issuing}
 use Rattle.sequential.specs.Replay.{Exchanged}
 use Rattle.sequential.proofs.Entries.{an_exchange, single_added, issuing_no_more, counted_single, shortest_after_single}
 use Rattle.sequential.proofs.log.Log.exchanged.Goals as goal
@@ -17,9 +17,7 @@ invariant_of-self c =
     }
 
 pub returns-clause-steps : goal.returns-clause-steps
-returns-clause-steps c = ap steps_of c.push_reserved.ensures.items
-    ∙ single_added (Exchanged c.args.at) (Exchange c.args.at) (an_exchange c.args.at) c.self.inside.entries.items
-    ∙ ap (λ (l : Logged). l.steps ++ Exchanged c.args.at ∷ []) c.self.view_is
+returns-clause-steps c = grind (arith, single_added, an_exchange)
 
 pub returns-clause-issuing : goal.returns-clause-issuing
 returns-clause-issuing c =

@@ -11,13 +11,7 @@ invariant_of-self c =
     (steps_of c.self.inside.entries.items) _
     c.args.count c.self.invariant.count c.self.invariant.run
     (subst (λ (l : Logged). last_run l.steps + c.args.count < 2 ^ 64) (sym c.self.view_is) c.requires.count)
-    c.add.ensures.steps c.saturating_add-self-inside.ensures in
-    record {
-      count = i.count;
-      run = i.run;
-      shortest = shortest_after_issues c.self.inside.entries.items _ c.args.count (omega (arith, c.if-count-gt0.true))
-          c.self.invariant.shortest c.add.ensures.entries c.add.ensures.steps;
-    }
+    c.add.ensures.steps c.saturating_add-self-inside.ensures in grind (arith, shortest_after_issues)
 
 pub add-requires-clause-room : goal.add-requires-clause-room
 add-requires-clause-room c =

@@ -1,6 +1,6 @@
-use Rattle.std.proofs.Common.{ap, ◌∙◌, ◌∷◌, [], ◌++◌}
+use Rattle.std.proofs.Common.{ap, ◌∙◌, arith}
 use Rattle.sequential.specs.declared.log.Entry.TheVariants.{PpRead}
-use Rattle.sequential.specs.Log.{Logged, steps_of, ends_issuing}
+use Rattle.sequential.specs.Log.{ends_issuing}
 use Rattle.sequential.specs.Replay.{ReadAt}
 use Rattle.sequential.proofs.Entries.{a_read, single_added, issuing_no_more, counted_single, shortest_after_single}
 use Rattle.sequential.proofs.log.Log.read_at.Goals as goal
@@ -17,9 +17,7 @@ invariant_of-self c =
     }
 
 pub returns-clause-steps : goal.returns-clause-steps
-returns-clause-steps c = ap steps_of c.push_reserved.ensures.items
-    ∙ single_added (ReadAt c.args.at) (PpRead c.args.at) (a_read c.args.at) c.self.inside.entries.items
-    ∙ ap (λ (l : Logged). l.steps ++ ReadAt c.args.at ∷ []) c.self.view_is
+returns-clause-steps c = grind (arith, single_added, a_read)
 
 pub returns-clause-issuing : goal.returns-clause-issuing
 returns-clause-issuing c =

@@ -1,6 +1,6 @@
-use Rattle.std.proofs.Common.{ap, ◌∙◌, ◌∷◌, [], ◌++◌}
+use Rattle.std.proofs.Common.{ap, ◌∙◌, arith}
 use Rattle.sequential.specs.declared.log.Entry.TheVariants.{PpWrite}
-use Rattle.sequential.specs.Log.{Logged, steps_of, ends_issuing}
+use Rattle.sequential.specs.Log.{ends_issuing}
 use Rattle.sequential.specs.Replay.{Wrote}
 use Rattle.sequential.proofs.Entries.{a_write, single_added, issuing_no_more, counted_single, shortest_after_single}
 use Rattle.sequential.proofs.log.Log.wrote.Goals as goal
@@ -18,10 +18,7 @@ invariant_of-self c =
     }
 
 pub returns-clause-steps : goal.returns-clause-steps
-returns-clause-steps c = ap steps_of c.push_reserved.ensures.items
-    ∙ single_added (Wrote c.args.at c.args.word) (PpWrite c.args.at c.args.word)
-    (a_write c.args.at c.args.word) c.self.inside.entries.items
-    ∙ ap (λ (l : Logged). l.steps ++ Wrote c.args.at c.args.word ∷ []) c.self.view_is
+returns-clause-steps c = grind (arith, single_added, a_write)
 
 pub returns-clause-issuing : goal.returns-clause-issuing
 returns-clause-issuing c =
