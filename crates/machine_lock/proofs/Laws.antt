@@ -31,7 +31,8 @@ use Rattle.atomic_table.specs.Table.{Me}
 use Rattle.progress_word.specs.CallerKnowledge.{Known, known, StartsWith, IsMade, Learnt, IsNoteOf}
 use Rattle.progress_word.specs.CallerKnowledge.{IsWhyOf}
 use Rattle.progress_word.specs.CallerKnowledge.{Booted, booted_by, booted_with, HasReplay, IsWordOf}
-use Rattle.machine_lock.specs.Held.{IsCurrent, Kept, with_processor}
+use Rattle.machine.specs.OneEvent.{IsEvent}
+use Rattle.machine_lock.specs.Held.{IsCurrent, IsHeldEvent, Kept, with_processor}
 use Rattle.machine_lock.specs.inner.LockInvariant.{IsLogged, last_step}
 use Rattle.progress_word.specs.inner.Rules.{History, Knowing, history, past, keeper, caller, Continues}
 
@@ -181,25 +182,28 @@ plain_made w Exchange h = refl
 plain_made w (PpRead a) h = absurd (cc)
 plain_made w (PpWrite a v) h = refl
 
--- the answer to such an event tells whether it was made
-pub plain_told : (w : Processor) (e : Event) (a : Result Done Refusal) (d : Done) → is_plain e ≡ true → IsAnswer w e a
-    → a ≡ Ok d → IsAnswer w e (Ok DoneMade)
-plain_told w e a d p i o =
-    let k : IsAnswer w e (Ok d) = subst (IsAnswer w e) o i in
-    subst (λ x. IsAnswer w e (Ok x)) (ok_done w e d k (made_allowed w e d k) ∙ plain_made w e p) k
+-- the event of the machine under the lock, with its answer
+pub held_event : (k w : Kept) (n : Processor) (e : Event) (a b : Result Done Refusal) → k ≡ w
+    → IsEvent k.processor e a n → a ≡ b → IsHeldEvent w e b (with_processor k n)
+held_event k w n e a b s h o =
+    subst (λ x. IsHeldEvent x e b (with_processor k n)) s
+    (record { machine = subst (λ x. IsEvent k.processor e x n) o h; rest = refl })
 
-pub made_told : (w v : Processor) (e : Event) (a : Result Done Refusal) (d : Done) → is_plain e ≡ true → IsAnswer v e a
-    → a ≡ Ok d → v ≡ w → IsAnswer w e (Ok DoneMade)
-made_told w v e a d p i o s = subst (λ x. IsAnswer x e (Ok DoneMade)) s (plain_told v e a d p i o)
+-- the same if the answer says only that the event was made
+pub held_plain : (k w : Kept) (n : Processor) (e : Event) (a : Result Done Refusal) (d : Done) → is_plain e ≡ true
+    → k ≡ w → IsEvent k.processor e a n → a ≡ Ok d → IsHeldEvent w e (Ok DoneMade) (with_processor k n)
+held_plain k w n e a d p s h o =
+    let i : IsAnswer k.processor e (Ok d) = subst (IsAnswer k.processor e) o h.answer in
+    held_event k w n e a (Ok DoneMade) s h
+    (o ∙ ap Ok (ok_done k.processor e d i (made_allowed k.processor e d i) ∙ plain_made k.processor e p))
 
--- the machine under the lock after a made event
-pub after_made : (k w : Kept) (m : Processor) (e : Event) (a : Result Done Refusal) (d x : Done) → k ≡ w
-    → m ≡ settled k.processor e a → a ≡ Ok d
-    → with_processor k m ≡ with_processor w (settled w.processor e (Ok x))
-unfolding settled
-after_made k w m e a d x s h o =
-    ap (with_processor k) (h ∙ ap (settled k.processor e) o)
-    ∙ ap (λ (y : Kept). with_processor y (after y.processor e)) s
+-- the same with the word that a peripheral processor read
+pub held_read : (k w : Kept) (n : Processor) (at : ℕ) (a : Result Done Refusal) (d : Done) → k ≡ w
+    → IsEvent k.processor (PpRead at) a n → a ≡ Ok d → IsHeldEvent w (PpRead at) (Ok (Word (word_in d))) (with_processor k n)
+held_read k w n at a d s h o =
+    let e = h.word at refl d o in
+    held_event k w n (PpRead at) a (Ok (Word (word_in d))) s h
+    (o ∙ ap Ok (e ∙ ap (λ x. Word (word_in x)) (sym e)))
 
 -- ---- an issue ----
 
@@ -227,30 +231,27 @@ done_issue w a d (inl h) o = by_refusal d (allowed w Issue) (sym o ∙ h)
     by_refusal DoneMade (Some x) k = cc
 done_issue w a d (inr h) o = let k = sym o ∙ h.want in cc
 
--- the reservation in the answer tells which issue it was
-pub issue_told : (w v : Processor) (a : Result Done Refusal) (d : Done) (n : Option Note) → IsAnswer v Issue a
-    → a ≡ Ok d → n ≡ note_in d → v ≡ w → IsAnswer w Issue (Ok (DoneIssue n))
-issue_told w v a d n i o h s =
-    let k : IsAnswer v Issue (Ok d) = subst (IsAnswer v Issue) o i in
-    subst (λ x. IsAnswer x Issue (Ok (DoneIssue n))) s
-    (subst (λ x. IsAnswer v Issue (Ok x)) (done_issue v a d i o ∙ ap DoneIssue (sym h)) k)
+-- the issue with the reservation in its answer
+pub held_issue : (k w : Kept) (n : Processor) (a : Result Done Refusal) (d : Done) → k ≡ w
+    → IsEvent k.processor Issue a n → a ≡ Ok d → IsHeldEvent w Issue (Ok (DoneIssue (note_in d))) (with_processor k n)
+held_issue k w n a d s h o =
+    held_event k w n Issue a (Ok (DoneIssue (note_in d))) s h (o ∙ ap Ok (done_issue k.processor a d h.answer o))
 
 -- the answer is the one to an issue in the state that the log leads to
 pub note_of : (w v : Processor) (a : Result Done Refusal) (d : Done) (k : Known) → replayed w ≡ Some (completed w)
-    → IsAnswer w Issue a → v ≡ settled w Issue a → a ≡ Ok d
-    → ((n : Option Note) → a ≡ Ok (DoneIssue n) → IsNoted (completed w) (taken (boot v.boot_memory) v.log) n)
-    → history k.booted k.log ≡ history (booted_by w) (w.log ++ Issued ∷ []) → IsNoteOf k (note_in d)
+    → IsEvent w Issue a v → a ≡ Ok d → history k.booted k.log ≡ history (booted_by w) (w.log ++ Issued ∷ [])
+    → IsNoteOf k (note_in d)
 unfolding replayed
-note_of w v a d k r i s o n h =
-    let p = issued_past w v a d s o in
-    let is = o ∙ ap Ok (done_issue w a d i o) in
+note_of w v a d k r e o h =
+    let p = issued_past w v a d e.after o in
+    let is = o ∙ ap Ok (done_issue w a d e.answer o) in
     let m : k.booted ≡ booted_by w = ap (λ (x : History). x.booted) h in (
       w.log,
       ap (λ (x : History). x.log) h,
       completed w,
       ap (λ (x : Booted). replay (boot x.memory) w.log) m ∙ r,
       subst (λ (x : History). IsNoted (completed w) (taken (boot x.booted.memory) x.log) (note_in d)) (p ∙ sym h)
-          (n (note_in d) is),
+          (e.noted (note_in d) is),
     )
 
 pub why_of : (w : Processor) (k : Known) (refusal : Refusal) → replayed w ≡ Some (completed w)
@@ -272,46 +273,40 @@ issue_logged w v (Err k) p ep s = unlogged w v Issue k p ep s
 
 -- the caller's knowledge after the issue
 pub issue_seen : (w v : Processor) (a : Result Done Refusal) (old new : Known) → replayed w ≡ Some (completed w)
-    → IsAnswer w Issue a → v ≡ settled w Issue a
-    → ((n : Option Note) → a ≡ Ok (DoneIssue n) → IsNoted (completed w) (taken (boot v.boot_memory) v.log) n)
-    → IfErr a (λ k. IsWhy (completed w) k) → IsWithinBudget v → IsCurrent v new
+    → IsEvent w Issue a v → IsWithinBudget v → IsCurrent v new
     → MatchResult a (λ d. IsMade (last_step v.log) old new) (λ k. Learnt old new)
     → MatchResult a (λ d. IsMade Issued old new × IsNoteOf new (note_in d)) (λ k. Learnt old new × IsWhyOf new k)
-issue_seen w v (Ok d) old new r i s n y b c m =
-    let p = issued_past w v (Ok d) d s refl in (
+issue_seen w v (Ok d) old new r e b c m =
+    let p = issued_past w v (Ok d) d e.after refl in (
       subst (λ x. IsMade x old new) (last_is w v Issued p).last m,
-      note_of w v (Ok d) d new r i s refl n (at_present v new c ∙ p),
+      note_of w v (Ok d) d new r e refl (at_present v new c ∙ p),
     )
-issue_seen w v (Err k) old new r i s n y b c m = (
+issue_seen w v (Err k) old new r e b c m = (
   m,
-  why_of w new k r (at_present v new c ∙ refused_past w v Issue (Err k) k s refl) y
-      (issue_budget w k i (subst IsWithinBudget (refused_same w v Issue (Err k) k s refl) b)),
+  why_of w new k r (at_present v new c ∙ refused_past w v Issue (Err k) k e.after refl) e.why
+      (issue_budget w k e.answer (subst IsWithinBudget (refused_same w v Issue (Err k) k e.after refl) b)),
 )
 
 -- the same after a made issue, whose answer has the reservation
 pub issue_made : (w v : Processor) (a : Result Done Refusal) (d : Done) (answered : Option Note) (old new : Known)
-    → replayed w ≡ Some (completed w) → IsAnswer w Issue a → v ≡ settled w Issue a
-    → ((n : Option Note) → a ≡ Ok (DoneIssue n) → IsNoted (completed w) (taken (boot v.boot_memory) v.log) n)
-    → IfErr a (λ k. IsWhy (completed w) k) → IsWithinBudget v → IsCurrent v new
+    → replayed w ≡ Some (completed w) → IsEvent w Issue a v → IsWithinBudget v → IsCurrent v new
     → MatchResult a (λ x. IsMade (last_step v.log) old new) (λ k. Learnt old new) → a ≡ Ok d → answered ≡ note_in d
     → IsMade Issued old new × IsNoteOf new answered
-issue_made w v a d answered old new r i s n y b c m o h =
+issue_made w v a d answered old new r e b c m o h =
     let x = subst (λ (z : Result Done Refusal). MatchResult z
     (λ q. IsMade Issued old new × IsNoteOf new (note_in q)) (λ k. Learnt old new × IsWhyOf new k)) o
-    (issue_seen w v a old new r i s n y b c m) in
+    (issue_seen w v a old new r e b c m) in
     (x.0, subst (λ (z : Option Note). IsNoteOf new z) (sym h) x.1)
 
 -- the same after a refused issue
 pub issue_why : (w v : Processor) (a : Result Done Refusal) (k : Refusal) (old new : Known)
-    → replayed w ≡ Some (completed w) → IsAnswer w Issue a → v ≡ settled w Issue a
-    → ((n : Option Note) → a ≡ Ok (DoneIssue n) → IsNoted (completed w) (taken (boot v.boot_memory) v.log) n)
-    → IfErr a (λ k. IsWhy (completed w) k) → IsWithinBudget v → IsCurrent v new
+    → replayed w ≡ Some (completed w) → IsEvent w Issue a v → IsWithinBudget v → IsCurrent v new
     → MatchResult a (λ x. IsMade (last_step v.log) old new) (λ r. Learnt old new) → a ≡ Err k
     → Learnt old new × IsWhyOf new k
-issue_why w v a k old new r i s n y b c m o =
+issue_why w v a k old new r e b c m o =
     subst (λ (z : Result Done Refusal). MatchResult z
     (λ q. IsMade Issued old new × IsNoteOf new (note_in q)) (λ x. Learnt old new × IsWhyOf new x)) o
-    (issue_seen w v a old new r i s n y b c m)
+    (issue_seen w v a old new r e b c m)
 
 -- ---- an exchange ----
 
@@ -342,45 +337,44 @@ last_exchange w v d i s =
     }
 
 pub exchange_logged : (w v : Processor) (a : Result Done Refusal) (p : Me ℕ Knowing) → p ≡ (keeper (past w), [])
-    → IsAnswer w Exchange a → v ≡ settled w Exchange a → IsLogged a p.0.seen v
-exchange_logged w v (Ok d) p ep i s = let l = last_exchange w v d i s in logged w v (Exchanged l.n) p ep l.step
-exchange_logged w v (Err k) p ep i s = unlogged w v Exchange k p ep s
+    → IsEvent w Exchange a v → IsLogged a p.0.seen v
+exchange_logged w v (Ok d) p ep e =
+    let l = last_exchange w v d e.answer e.after in logged w v (Exchanged l.n) p ep l.step
+exchange_logged w v (Err k) p ep e = unlogged w v Exchange k p ep e.after
 
 -- the caller's knowledge after the exchange
 pub exchange_seen : (w v : Processor) (asked : Option ℕ) (a : Result Done Refusal) (old new : Known)
-    → asked ≡ w.request → replayed w ≡ Some (completed w) → IsAnswer w Exchange a → v ≡ settled w Exchange a
-    → IfErr a (λ k. IsWhy (completed w) k) → IfErr a (λ k. may_refuse Exchange k ≡ true) → IsCurrent v new
+    → asked ≡ w.request → replayed w ≡ Some (completed w) → IsEvent w Exchange a v → IsCurrent v new
     → MatchResult a (λ d. IsMade (last_step v.log) old new) (λ k. Learnt old new)
     → MatchResult a (λ d. (n : ℕ) × (asked ≡ Some n) × IsMade (Exchanged n) old new)
     (λ k. Learnt old new × IsWhyOf new k)
-exchange_seen w v asked (Ok d) old new q r i s y b c m =
-    let l = last_exchange w v d i s in (l.n, q ∙ l.request, subst (λ x. IsMade x old new) l.step.last m)
-exchange_seen w v asked (Err k) old new q r i s y b c m = (
+exchange_seen w v asked (Ok d) old new q r e c m =
+    let l = last_exchange w v d e.answer e.after in (l.n, q ∙ l.request, subst (λ x. IsMade x old new) l.step.last m)
+exchange_seen w v asked (Err k) old new q r e c m = (
   m,
-  why_of w new k r (at_present v new c ∙ refused_past w v Exchange (Err k) k s refl) y (exchange_budget w k b),
+  why_of w new k r (at_present v new c ∙ refused_past w v Exchange (Err k) k e.after refl) e.why
+      (exchange_budget w k e.named),
 )
 
 -- the same after a made exchange
 pub exchange_made : (w v : Processor) (asked : Option ℕ) (a : Result Done Refusal) (d : Done) (old new : Known)
-    → asked ≡ w.request → replayed w ≡ Some (completed w) → IsAnswer w Exchange a → v ≡ settled w Exchange a
-    → IfErr a (λ k. IsWhy (completed w) k) → IfErr a (λ k. may_refuse Exchange k ≡ true) → IsCurrent v new
+    → asked ≡ w.request → replayed w ≡ Some (completed w) → IsEvent w Exchange a v → IsCurrent v new
     → MatchResult a (λ x. IsMade (last_step v.log) old new) (λ k. Learnt old new) → a ≡ Ok d
     → (n : ℕ) × (asked ≡ Some n) × IsMade (Exchanged n) old new
-exchange_made w v asked a d old new q r i s y b c m o =
+exchange_made w v asked a d old new q r e c m o =
     subst (λ (z : Result Done Refusal). MatchResult z
     (λ x. (n : ℕ) × (asked ≡ Some n) × IsMade (Exchanged n) old new) (λ k. Learnt old new × IsWhyOf new k)) o
-    (exchange_seen w v asked a old new q r i s y b c m)
+    (exchange_seen w v asked a old new q r e c m)
 
 -- the same after a refused exchange
 pub exchange_why : (w v : Processor) (asked : Option ℕ) (a : Result Done Refusal) (k : Refusal) (old new : Known)
-    → asked ≡ w.request → replayed w ≡ Some (completed w) → IsAnswer w Exchange a → v ≡ settled w Exchange a
-    → IfErr a (λ k. IsWhy (completed w) k) → IfErr a (λ k. may_refuse Exchange k ≡ true) → IsCurrent v new
+    → asked ≡ w.request → replayed w ≡ Some (completed w) → IsEvent w Exchange a v → IsCurrent v new
     → MatchResult a (λ x. IsMade (last_step v.log) old new) (λ r. Learnt old new) → a ≡ Err k
     → Learnt old new × IsWhyOf new k
-exchange_why w v asked a k old new q r i s y b c m o =
+exchange_why w v asked a k old new q r e c m o =
     subst (λ (z : Result Done Refusal). MatchResult z
     (λ x. (n : ℕ) × (asked ≡ Some n) × IsMade (Exchanged n) old new) (λ x. Learnt old new × IsWhyOf new x)) o
-    (exchange_seen w v asked a old new q r i s y b c m)
+    (exchange_seen w v asked a old new q r e c m)
 
 -- ---- a peripheral access ----
 

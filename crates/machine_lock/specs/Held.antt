@@ -3,9 +3,11 @@ use Rattle.std.specs.Prelude.{◌≡◌, ℕ, Bool, Option, Some, None, Result, 
 use Rattle.instructions.specs.declared.refusal.Refusal.{Refusal}
 use Rattle.program_order.specs.declared.event.Done.{Done}
 use Rattle.program_order.specs.declared.event.Done.TheVariants.{Made}
+use Rattle.program_order.specs.declared.event.Event.{Event}
 use Rattle.program_order.specs.declared.event.Event.TheVariants.{Ask}
 use Rattle.program_order.specs.Processor.{Processor}
 use Rattle.program_order.specs.Run.{IsAnswer, settled}
+use Rattle.machine.specs.OneEvent.{IsEvent}
 use Rattle.progress_word.specs.CallerKnowledge.{Known, booted_by}
 
 -- the machine under the lock, and whether its users were told to end
@@ -30,6 +32,11 @@ answered done (Err refusal) = Err refusal
 abbrev pub made_or_refused : {T : Type 0} → Result T Refusal → Result Done Refusal
 made_or_refused (Ok x) = Ok Made
 made_or_refused (Err refusal) = Err refusal
+
+-- the event with this answer leads from the old machine under the lock to the new one, and changes nothing else
+pub record IsHeldEvent (old : Kept) (event : Event) (result : Result Done Refusal) (new : Kept) : Type 0 where
+  pub machine : IsEvent old.processor event result new.processor
+  pub rest : new ≡ with_processor old new.processor
 
 -- what follows an exchange with this outcome: if it was made and there is a next package, that package is asked for at
 -- once and this is the answer to that request; otherwise nothing more is done

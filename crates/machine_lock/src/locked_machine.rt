@@ -10,14 +10,13 @@ ghost use Rattle.program_order.specs.declared.event.Event.TheVariants.{Issue, Re
 ghost use Rattle.program_order.specs.declared.event.Event.TheVariants.{BankFree, Ask, Exchange, PpRead, PpWrite};
 ghost use Rattle.program_order.specs.Events.{after, allowed};
 ghost use Rattle.program_order.specs.Headline.{IsFaultedRun};
-ghost use Rattle.program_order.specs.Refusals.{is_nothing, is_stranger, is_issue_refusal, is_read_refusal};
-ghost use Rattle.program_order.specs.Refusals.{is_store_refusal, is_accept_refusal, is_return_refusal, is_ask_refusal};
-ghost use Rattle.program_order.specs.Refusals.{is_access_refusal, is_exchange_refusal, may_refuse};
+ghost use Rattle.program_order.specs.Refusals.{is_stranger, is_read_refusal, is_store_refusal, is_ask_refusal};
+ghost use Rattle.program_order.specs.Refusals.{is_exchange_refusal};
 ghost use Rattle.program_order.specs.Run.{IsAnswer, settled};
 ghost use Rattle.machine.specs.Tokens.{can_claim, finished_in, one_more, read_of, reading_in, refusal_to, refused};
 ghost use Rattle.machine.specs.Tokens.{slot, unread_in};
 ghost use Rattle.progress_word.specs.CallerKnowledge.{IsMade, Learnt, HasReplay, IsNoteOf, IsWhyOf, IsWordOf};
-ghost use Rattle.machine_lock.specs.Held.{IsAskedNext, IsCurrent, made_or_refused, answered, with_processor};
+ghost use Rattle.machine_lock.specs.Held.{IsAskedNext, IsCurrent, IsHeldEvent, made_or_refused, answered, with_processor};
 ghost use Rattle.program_order.specs.Invariant.{IsReplay, IsWithinBudget};
 ghost use Rattle.machine_lock.specs.inner.LockInvariant.{IsLogged, last_step};
 ghost use Rattle.progress_word.specs.inner.Rules.{IsKeeper, past};
@@ -132,13 +131,11 @@ impl<K: Naming> LockedMachine<K> {
     /// Any refusal of an issue.
     #[tactic(auto, unfolding(program_order::specs::Refusals::may_refuse, program_order::specs::Run::settled))]
     pub fn issue(&mut self, seen: &mut Seen<K>) -> Result<Option<Note>, Refusal>
-        ensures answer { IsAnswer self.old.processor Issue (answered DoneIssue result) }
-        ensures after { self.new ≡ with_processor self.old (settled self.old.processor Issue (answered DoneIssue result)) }
+        ensures event { IsHeldEvent self.old Issue (answered DoneIssue result) self.new }
         ensures seen { MatchResult result (λ note. IsMade Issued seen.old seen.new × IsNoteOf seen.new note)
             (λ refusal. Learnt seen.old seen.new × IsWhyOf seen.new refusal) }
         ensures current { IsCurrent self.new.processor seen.new }
         ensures replayed { HasReplay seen.new }
-        ensures named { IfErr result (λ refusal. is_issue_refusal refusal ≡ true) }
     {
         let answer = self.machine.issue();
         record_or_compare(&self.word, &mut self.pass, seen, &self.machine, &answer);
@@ -154,13 +151,10 @@ impl<K: Naming> LockedMachine<K> {
     /// Any refusal of a request.
     #[tactic(auto, unfolding(program_order::specs::Refusals::may_refuse, program_order::specs::Run::settled))]
     pub fn ask(&mut self, seen: &mut Seen<K>, at: u32) -> Result<(), Refusal>
-        ensures answer { IsAnswer self.old.processor (Ask at) (made_or_refused result) }
-        ensures after { self.new
-            ≡ with_processor self.old (settled self.old.processor (Ask at) (made_or_refused result)) }
+        ensures event { IsHeldEvent self.old (Ask at) (made_or_refused result) self.new }
         ensures seen { Learnt seen.old seen.new }
         ensures current { IsCurrent self.new.processor seen.new }
         ensures replayed { HasReplay seen.new }
-        ensures named { IfErr result (λ refusal. is_ask_refusal refusal ≡ true) }
     {
         let answer = self.machine.ask(at);
         compare(&self.word, &mut self.pass, seen, &self.machine);
@@ -175,15 +169,12 @@ impl<K: Naming> LockedMachine<K> {
     /// Any refusal of an exchange.
     #[tactic(auto, unfolding(program_order::specs::Refusals::may_refuse, program_order::specs::Run::settled))]
     pub fn exchange(&mut self, seen: &mut Seen<K>) -> Result<(), Refusal>
-        ensures answer { IsAnswer self.old.processor Exchange (made_or_refused result) }
-        ensures after { self.new
-            ≡ with_processor self.old (settled self.old.processor Exchange (made_or_refused result)) }
+        ensures event { IsHeldEvent self.old Exchange (made_or_refused result) self.new }
         ensures seen { MatchResult result
             (λ _. (n : ℕ) × (self.old.processor.request ≡ Some n) × IsMade (Exchanged n) seen.old seen.new)
             (λ refusal. Learnt seen.old seen.new × IsWhyOf seen.new refusal) }
         ensures current { IsCurrent self.new.processor seen.new }
         ensures replayed { HasReplay seen.new }
-        ensures named { IfErr result (λ refusal. is_exchange_refusal refusal ≡ true) }
     {
         let answer = self.machine.exchange();
         record_or_compare(&self.word, &mut self.pass, seen, &self.machine, &answer);
@@ -228,14 +219,11 @@ impl<K: Naming> LockedMachine<K> {
     /// Any refusal of a peripheral access.
     #[tactic(auto, unfolding(program_order::specs::Refusals::may_refuse, program_order::specs::Run::settled))]
     pub fn pp_read(&mut self, seen: &mut Seen<K>, at: u32) -> Result<Word60, Refusal>
-        ensures answer { IsAnswer self.old.processor (PpRead at) (answered DoneWord result) }
-        ensures after { self.new
-            ≡ with_processor self.old (settled self.old.processor (PpRead at) (answered DoneWord result)) }
+        ensures event { IsHeldEvent self.old (PpRead at) (answered DoneWord result) self.new }
         ensures seen { MatchResult result (λ word. IsMade (ReadAt at) seen.old seen.new × IsWordOf seen.new at word)
             (λ refusal. Learnt seen.old seen.new) }
         ensures current { IsCurrent self.new.processor seen.new }
         ensures replayed { HasReplay seen.new }
-        ensures named { IfErr result (λ refusal. is_access_refusal refusal ≡ true) }
     {
         let answer = self.machine.pp_read(at);
         record_or_compare(&self.word, &mut self.pass, seen, &self.machine, &answer);
@@ -251,14 +239,11 @@ impl<K: Naming> LockedMachine<K> {
     /// Any refusal of a peripheral access.
     #[tactic(auto, unfolding(program_order::specs::Refusals::may_refuse, program_order::specs::Run::settled))]
     pub fn pp_write(&mut self, seen: &mut Seen<K>, at: u32, word: Word60) -> Result<(), Refusal>
-        ensures answer { IsAnswer self.old.processor (PpWrite at word) (made_or_refused result) }
-        ensures after { self.new
-            ≡ with_processor self.old (settled self.old.processor (PpWrite at word) (made_or_refused result)) }
+        ensures event { IsHeldEvent self.old (PpWrite at word) (made_or_refused result) self.new }
         ensures seen { MatchResult result (λ _. IsMade (Wrote at word) seen.old seen.new)
             (λ refusal. Learnt seen.old seen.new) }
         ensures current { IsCurrent self.new.processor seen.new }
         ensures replayed { HasReplay seen.new }
-        ensures named { IfErr result (λ refusal. is_access_refusal refusal ≡ true) }
     {
         let answer = self.machine.pp_write(at, word);
         record_or_compare(&self.word, &mut self.pass, seen, &self.machine, &answer);
@@ -349,10 +334,7 @@ impl<K: Naming> LockedMachine<K> {
     /// `BankBusy` or `OlderAtAddress`. `Nothing` if the place is empty.
     #[tactic(auto, unfolding(program_order::specs::Refusals::may_refuse))]
     pub fn accept(&mut self, place: u8) -> Result<(), Refusal>
-        ensures answer { IsAnswer self.old.processor (Accept place) (made_or_refused result) }
-        ensures after { self.new
-            ≡ with_processor self.old (settled self.old.processor (Accept place) (made_or_refused result)) }
-        ensures named { IfErr result (λ refusal. (is_nothing refusal || is_accept_refusal refusal) ≡ true) }
+        ensures { IsHeldEvent self.old (Accept place) (made_or_refused result) self.new }
     {
         let accepted = self.machine.accept(place);
         self.machine.keeps_replay();
@@ -367,10 +349,7 @@ impl<K: Naming> LockedMachine<K> {
     /// `ResultHeld`. `Nothing` if the channel is empty.
     #[tactic(auto, unfolding(program_order::specs::Refusals::may_refuse))]
     pub fn return_load(&mut self, channel: u8) -> Result<(), Refusal>
-        ensures answer { IsAnswer self.old.processor (Return channel) (made_or_refused result) }
-        ensures after { self.new
-            ≡ with_processor self.old (settled self.old.processor (Return channel) (made_or_refused result)) }
-        ensures named { IfErr result (λ refusal. (is_nothing refusal || is_return_refusal refusal) ≡ true) }
+        ensures { IsHeldEvent self.old (Return channel) (made_or_refused result) self.new }
     {
         let returned = self.machine.return_load(channel);
         self.machine.keeps_replay();
@@ -385,10 +364,7 @@ impl<K: Naming> LockedMachine<K> {
     /// `Nothing` if the bank isn't busy.
     #[tactic(auto, unfolding(program_order::specs::Refusals::may_refuse))]
     pub fn bank_free(&mut self, bank: u8) -> Result<(), Refusal>
-        ensures answer { IsAnswer self.old.processor (BankFree bank) (made_or_refused result) }
-        ensures after { self.new
-            ≡ with_processor self.old (settled self.old.processor (BankFree bank) (made_or_refused result)) }
-        ensures named { IfErr result (λ refusal. is_nothing refusal ≡ true) }
+        ensures { IsHeldEvent self.old (BankFree bank) (made_or_refused result) self.new }
     {
         let freed = self.machine.bank_free(bank);
         self.machine.keeps_replay();

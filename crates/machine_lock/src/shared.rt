@@ -176,6 +176,7 @@ impl<K: Naming> Shared<K> {
     ///
     /// # Errors
     /// Any refusal of an issue.
+    #[tactic(auto, unfolding(program_order::specs::Refusals::may_refuse))]
     pub fn issue<R: Wait>(&self, rt: &R, seen: &mut Seen<K>) -> Result<Option<Note>, Refusal>
         ensures seen { MatchResult result (λ note. IsMade Issued seen.old seen.new × IsNoteOf seen.new note)
             (λ refusal. Learnt seen.old seen.new × IsWhyOf seen.new refusal) }
@@ -193,6 +194,7 @@ impl<K: Naming> Shared<K> {
     ///
     /// # Errors
     /// Any refusal of a request.
+    #[tactic(auto, unfolding(program_order::specs::Refusals::may_refuse))]
     pub fn ask<R: Wait>(&self, rt: &R, seen: &mut Seen<K>, at: u32) -> Result<(), Refusal>
         ensures seen { Learnt seen.old seen.new }
         ensures replayed { HasReplay seen.new }
@@ -209,6 +211,7 @@ impl<K: Naming> Shared<K> {
     ///
     /// # Errors
     /// Any refusal of an exchange.
+    #[tactic(auto, unfolding(program_order::specs::Refusals::may_refuse))]
     pub fn exchange<R: Wait>(&self, rt: &R, seen: &mut Seen<K>) -> Result<(), Refusal>
         ensures seen { MatchResult result (λ _. (n : ℕ) × IsMade (Exchanged n) seen.old seen.new)
             (λ refusal. Learnt seen.old seen.new × IsWhyOf seen.new refusal) }
@@ -253,6 +256,7 @@ impl<K: Naming> Shared<K> {
     ///
     /// # Errors
     /// Any refusal of a peripheral access.
+    #[tactic(auto, unfolding(program_order::specs::Refusals::may_refuse))]
     pub fn pp_read<R: Wait>(&self, rt: &R, seen: &mut Seen<K>, at: u32) -> Result<Word60, Refusal>
         ensures seen { MatchResult result (λ word. IsMade (ReadAt at) seen.old seen.new × IsWordOf seen.new at word)
             (λ refusal. Learnt seen.old seen.new) }
@@ -271,6 +275,7 @@ impl<K: Naming> Shared<K> {
     ///
     /// # Errors
     /// Any refusal of a peripheral access.
+    #[tactic(auto, unfolding(program_order::specs::Refusals::may_refuse))]
     pub fn pp_write<R: Wait>(
         &self,
         rt: &R,
@@ -357,6 +362,7 @@ impl<K: Naming> Shared<K> {
     ///
     /// # Errors
     /// `BankBusy` or `OlderAtAddress`. `Nothing` if the place is empty.
+    #[tactic(auto, unfolding(program_order::specs::Refusals::may_refuse))]
     pub fn accept<R: Wait>(&self, rt: &R, place: u8) -> Result<(), Refusal>
         ensures { IfErr result (λ refusal. (is_nothing refusal || is_accept_refusal refusal) ≡ true) }
     {
@@ -370,6 +376,7 @@ impl<K: Naming> Shared<K> {
     ///
     /// # Errors
     /// `ResultHeld`. `Nothing` if the channel is empty.
+    #[tactic(auto, unfolding(program_order::specs::Refusals::may_refuse))]
     pub fn return_load<R: Wait>(&self, rt: &R, channel: u8) -> Result<(), Refusal>
         ensures { IfErr result (λ refusal. (is_nothing refusal || is_return_refusal refusal) ≡ true) }
     {
@@ -383,6 +390,7 @@ impl<K: Naming> Shared<K> {
     ///
     /// # Errors
     /// `Nothing` if the bank isn't busy.
+    #[tactic(auto, unfolding(program_order::specs::Refusals::may_refuse))]
     pub fn bank_free<R: Wait>(&self, rt: &R, bank: u8) -> Result<(), Refusal>
         ensures { IfErr result (λ refusal. is_nothing refusal ≡ true) }
     {

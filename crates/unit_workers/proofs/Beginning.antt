@@ -55,12 +55,13 @@ busy_waits w n a (inl h) e =
 busy_waits w n a (inr r) e = let o = sym e ∙ r.want in absurd (cc)
 
 -- an exchange is refused for the middle of a word only if the machine isn't halted
-mid_runs : (w : Processor) (a : Result Done Refusal) → a ≡ answer_of w Exchange → a ≡ Err MidWord
+mid_runs : (w : Processor) (a : Result Done Refusal) → IsAnswer w Exchange a → a ≡ Err MidWord
     → is_none w.state.halt ≡ true
 unfolding answer_of allowed tests_of exchange_tests refusal_of
-mid_runs w a h e =
+mid_runs w a (inl h) e =
     (and_parts (is_none w.state.halt) _ (third_fails (is_none w.request) _ _
     (answered_err _ (allowed w Exchange) MidWord (sym e ∙ h)))).0
+mid_runs w a (inr r) e = let o = sym e ∙ r.want in absurd (cc)
 
 -- ---- how the machine has gone on ----
 
@@ -89,7 +90,7 @@ begins_later n w u a h s e =
     }
 
 pub begins_in_mid_word : (n : ℕ) (w u v : Processor) (d : Done) (a b : Result Done Refusal) → u ≡ settled w (Ask n) a
-    → a ≡ Ok d → b ≡ answer_of u Exchange → v ≡ settled u Exchange b → b ≡ Err MidWord → Begins false n w v
+    → a ≡ Ok d → IsAnswer u Exchange b → v ≡ settled u Exchange b → b ≡ Err MidWord → Begins false n w v
 unfolding settled after
 begins_in_mid_word n w u v d a b s e h t f =
     let asked : u ≡ after w (Ask n) = s ∙ ap (settled w (Ask n)) e in

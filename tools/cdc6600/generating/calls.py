@@ -69,11 +69,12 @@ def of_tests():
 
 
 def named_by(call):
-    """The refusals that a contract names, by themselves or by a definition of Refusals.antt."""
+    """The refusals that a contract names, by themselves, by a definition of Refusals.antt, or by its event."""
     text = (ROOT / call.path).read_text(encoding="utf-8")
     imports = re.findall(r"Rattle\.program_order\.specs\.Refusals\.\{([^}]*)\}", text)
     kinds = set(re.findall(r"\w+", " ".join(imports))) & set(re.findall(r"\bis_\w+", call.declaration))
-    names = set().union(*(of_kinds()[kind] for kind in kinds))
+    events = re.findall(r"\bIs(?:Held)?Event self\.old \(?([A-Z]\w+)", call.declaration)
+    names = set().union(*(of_kinds()[kind] for kind in [*kinds, *events]))
     for pair in re.findall(r"(?:refusal|back\.0) ≡ (?:\(if .*? then )?(\w+)(?: else (\w+))?", call.declaration):
         names.update(pair)
     return names & set(refusals())

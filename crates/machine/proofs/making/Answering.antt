@@ -1,47 +1,70 @@
--- Facts about a known event that follow from its answer.
-use Rattle.std.proofs.Common.{◌≡◌, ◌∙◌, true, [], ◌∷◌, ap, inl, subst, sym, Option}
-use Rattle.std.specs.Prelude.{Result, Ok, IfErr}
+-- The statement of an event, from its answer and the machine after it.
+use Rattle.std.proofs.Common.{◌≡◌, ◌∙◌, true, Some, None, ap, inl, inr, refl, subst, sym}
+use Rattle.std.specs.Prelude.{Result, Ok, Err, MatchResult}
 use Rattle.instructions.specs.declared.refusal.Refusal.{Refusal}
-use Rattle.sequential.specs.Replay.{boot}
-use Rattle.sequential.specs.UnitIssues.{taken}
+use Rattle.instructions.specs.declared.refusal.Refusal.TheVariants.{OutOfMemory}
+use Rattle.sequential.specs.Log.{Logged}
+use Rattle.in_flight.specs.Tests.{refusal_in}
 use Rattle.program_order.specs.declared.event.Done.{Done}
-use Rattle.program_order.specs.declared.event.Done.TheVariants.{Issued}
+use Rattle.program_order.specs.declared.event.Done.TheVariants.{Made}
 use Rattle.program_order.specs.declared.event.Event.{Event}
-use Rattle.program_order.specs.declared.event.Note.{Note}
-use Rattle.program_order.specs.Processor.{Processor, completed}
-use Rattle.program_order.specs.Reached.{GoesOn}
-use Rattle.program_order.specs.Refusals.{may_refuse}
-use Rattle.program_order.specs.Run.{IsAnswer, answer_of, settled}
+use Rattle.program_order.specs.Events.{allowed, after}
 use Rattle.program_order.specs.Invariant.{IsReplay}
-use Rattle.program_order.specs.Telling.{IsNoted, IsNumbered, IsWhy}
+use Rattle.program_order.specs.Processor.{Processor}
+use Rattle.program_order.specs.Run.{IsAnswer, done_by, makes_room, settled}
+use Rattle.program_order.specs.Telling.{IsNumbered}
 use Rattle.program_order.proofs.keeping.Naming.{answer_named}
 use Rattle.program_order.proofs.keeping.Numbering.{noted}
-use Rattle.program_order.proofs.keeping.Telling.{answer_why}
+use Rattle.program_order.proofs.keeping.Telling.{answer_why, word_told}
 use Rattle.program_order.proofs.reaching.Reached.{event_goes_on}
+use Rattle.machine.specs.OneEvent.{IsEvent}
+use Rattle.machine.specs.inner.View.{IsKept}
+use Rattle.machine.proofs.making.Made.{made_answer, made_after}
+use Rattle.machine.proofs.making.Making.{err_answer, err_after, ok_answer, ok_after}
 
-pub made_named : (w : Processor) (d e : Event) (a : Result Done Refusal) → d ≡ e → a ≡ answer_of w e
-    → IfErr a (λ k. may_refuse d k ≡ true)
-made_named w d e a i h = answer_named w d a (inl (h ∙ ap (answer_of w) (sym i)))
+pub is_event : (w v : Processor) (e : Event) (a : Result Done Refusal) → IsReplay w → IsNumbered w → IsAnswer w e a
+    → v ≡ settled w e a → IsEvent w e a v
+is_event w v e a r n h k = record {
+  answer = h;
+  after = k;
+  named = answer_named w e a h;
+  why = answer_why w e a h;
+  noted = λ note. noted w v e a note r n h k;
+  word = λ at i done. word_told w v at a done (subst (λ x. IsAnswer w x a) i h) (k ∙ ap (λ x. settled w x a) i);
+  reached = event_goes_on w v e a h k;
+}
 
-pub made_reached : (w v : Processor) (d e : Event) (a : Result Done Refusal) → d ≡ e → a ≡ answer_of w e
-    → v ≡ settled w e a → GoesOn w (d ∷ []) (a ∷ []) v
-made_reached w v d e a i h k =
-    event_goes_on w v d a (inl (h ∙ ap (answer_of w) (sym i))) (k ∙ ap (λ x. settled w x a) (sym i))
+-- ---- from the machine that the fields represent ----
 
-pub made_noted : (w v : Processor) (e : Event) (a : Result Done Refusal) → IsReplay w → IsNumbered w
-    → a ≡ answer_of w e → v ≡ settled w e a → (note : Option Note) → a ≡ Ok (Issued note)
-    → IsNoted (completed w) (taken (boot v.boot_memory) v.log) note
-made_noted w v e a r n h k note = noted w v e a note r n (inl h) k
+kept_event : {log : Logged} (w old new : Processor) (e : Event) (a : Result Done Refusal) → IsKept w log → w ≡ old
+    → IsAnswer old e a → new ≡ settled old e a → IsEvent old e a new
+kept_event w old new e a k s h m =
+    is_event old new e a (subst IsReplay s k.replay) (subst IsNumbered s k.numbers) h m
 
-pub made_why : (w : Processor) (e : Event) (a : Result Done Refusal) → a ≡ answer_of w e
-    → IfErr a (λ k. IsWhy (completed w) k)
-made_why w e a h = answer_why w e a (inl h)
+-- the event is made
+pub ok_event : {log : Logged} (w old new : Processor) (e : Event) (d : Done) → IsKept w log → w ≡ old
+    → allowed w e ≡ None → d ≡ done_by w e → new ≡ after w e → IsEvent old e (Ok d) new
+ok_event w old new e d k s a i m =
+    kept_event w old new e (Ok d) k s (inl (ok_answer w old e d s a i)) (ok_after w old new e d s m)
 
-pub room_named : (w : Processor) (d e : Event) (a : Result Done Refusal) → d ≡ e → IsAnswer w e a
-    → IfErr a (λ k. may_refuse d k ≡ true)
-room_named w d e a i h = answer_named w d a (subst (λ x. IsAnswer w x a) (sym i) h)
+-- the event is refused
+pub err_event : {log : Logged} (w old new : Processor) (e : Event) (r : Refusal) → IsKept w log → w ≡ old
+    → allowed w e ≡ Some r → new ≡ old → IsEvent old e (Err r) new
+err_event w old new e r k s a m =
+    kept_event w old new e (Err r) k s (inl (err_answer w old e r s a)) (err_after old new e r m)
 
-pub room_reached : (w v : Processor) (d e : Event) (a : Result Done Refusal) → d ≡ e → IsAnswer w e a
-    → v ≡ settled w e a → GoesOn w (d ∷ []) (a ∷ []) v
-room_reached w v d e a i h k =
-    event_goes_on w v d a (subst (λ x. IsAnswer w x a) (sym i) h) (k ∙ ap (λ x. settled w x a) (sym i))
+-- the log can't grow
+pub growth_event : {log : Logged} (w old new : Processor) (e : Event) → IsKept w log → w ≡ old → makes_room e ≡ true
+    → allowed w e ≡ None → new ≡ old → IsEvent old e (Err OutOfMemory) new
+growth_event w old new e k s g a m =
+    kept_event w old new e (Err OutOfMemory) k s
+    (inr (record { want = refl; growing = g; otherwise_allowed = ap (λ x. allowed x e) (sym s) ∙ a }))
+    (err_after old new e OutOfMemory m)
+
+-- the answer says only that the event was made, or refuses it
+pub made_event : {T : Type 0} {log : Logged} (w old new : Processor) (e : Event) (r : Result T Refusal)
+    (a : Result Done Refusal) → IsKept w log → w ≡ old → Made ≡ done_by w e → allowed w e ≡ refusal_in r
+    → MatchResult r (λ _. new ≡ after w e) (λ k. new ≡ w) → MatchResult r (λ _. a ≡ Ok Made) (λ k. a ≡ Err k)
+    → IsEvent old e a new
+made_event w old new e r a k s d g m h =
+    kept_event w old new e a k s (inl (made_answer w old e r a s d g h)) (made_after w old new e r a s m h)

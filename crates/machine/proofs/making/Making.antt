@@ -57,7 +57,7 @@ use Rattle.in_flight.specs.Flight.{relocated}
 use Rattle.program_order.specs.Units.{finish_tests, store_tests, rest_of, stage_after_read, stage_after_finish}
 use Rattle.program_order.specs.Units.{after_read, after_finish, after_work, after_store}
 use Rattle.program_order.specs.Exchange.{ask_tests, exchange_tests, after_exchange}
-use Rattle.program_order.specs.Peripheral.{after_pp_read, after_pp_write}
+use Rattle.program_order.specs.Peripheral.{access_tests, after_pp_read, after_pp_write}
 use Rattle.program_order.specs.Issue.{issue_tests, after_issue}
 use Rattle.program_order.specs.Events.{tests_of, allowed, after_found, after}
 use Rattle.program_order.specs.Memory.{after_accept, after_return}
@@ -199,6 +199,13 @@ pub ask_judged : (w : Processor) (n size : ℕ) (r : Result (Unit {0}) Refusal) 
     → allowed w (Ask n) ≡ o
 unfolding allowed tests_of
 ask_judged w n size r o z h e = ap (λ k. refusal_of (ask_tests w.asked w.request k n)) (sym z) ∙ h ∙ e
+
+-- a peripheral access; the memory's size was counted
+pub access_judged : (w : Processor) (e : Event) (a size : ℕ) (r o : Option Refusal) → size ≡ length w.state.memory
+    → allowed w e ≡ refusal_of (access_tests w.accessed w.pending (length w.state.memory) a)
+    → refusal_of (access_tests w.accessed w.pending size a) ≡ r → r ≡ o → allowed w e ≡ o
+access_judged w e a size r o z g h k =
+    g ∙ ap (λ n. refusal_of (access_tests w.accessed w.pending n a)) (sym z) ∙ h ∙ k
 
 pub exchange_judged : (w : Processor) (r o : Option Refusal)
     → refusal_of (exchange_tests w.request w.pending w.state) ≡ r → r ≡ o → allowed w Exchange ≡ o

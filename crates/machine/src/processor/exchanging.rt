@@ -1,12 +1,7 @@
 //! The events of exchanges: `Ask` and `Exchange`.
 
-ghost use Rattle.std.specs.Prelude.{◌≡◌, true, [], ◌∷◌, IfErr};
 ghost use Rattle.program_order.specs.declared.event.Event.TheVariants.{Ask, Exchange};
-ghost use Rattle.program_order.specs.Processor.{completed};
-ghost use Rattle.program_order.specs.Reached.{GoesOn};
-ghost use Rattle.program_order.specs.Refusals.{may_refuse};
-ghost use Rattle.program_order.specs.Run.{IsAnswer, answer_of, settled};
-ghost use Rattle.program_order.specs.Telling.{IsWhy};
+ghost use Rattle.machine.specs.OneEvent.{IsEvent};
 
 use crate::changing::exchange;
 use crate::processor::made;
@@ -27,11 +22,7 @@ impl Machine {
     /// The first that applies: `Budget`, `ExchangeBusy`, `PackageRange` or `OutOfMemory`. The machine is then
     /// unchanged.
     pub fn ask(&mut self, at: u32) -> Answer
-        ensures answer { IsAnswer self.old (Ask at) result }
-        ensures after { self.new ≡ settled self.old (Ask at) result }
-        ensures named { IfErr result (λ refusal. may_refuse (Ask at) refusal ≡ true) }
-        ensures reached { GoesOn self.old (Ask at ∷ []) (result ∷ []) self.new }
-        ensures why { IfErr result (λ refusal. IsWhy (completed self.old) refusal) }
+        ensures { IsEvent self.old (Ask at) result self.new }
     {
         let size = self.state.memory.size();
         judge_ask(self.asked, &self.request, size, at)?;
@@ -48,11 +39,7 @@ impl Machine {
     /// # Errors
     /// The first that applies: `Nothing`, `NotDrained` or `MidWord`. The machine is then unchanged.
     pub fn exchange(&mut self) -> Answer
-        ensures answer { result ≡ answer_of self.old Exchange }
-        ensures after { self.new ≡ settled self.old Exchange result }
-        ensures named { IfErr result (λ refusal. may_refuse Exchange refusal ≡ true) }
-        ensures reached { GoesOn self.old (Exchange ∷ []) (result ∷ []) self.new }
-        ensures why { IfErr result (λ refusal. IsWhy (completed self.old) refusal) }
+        ensures { IsEvent self.old Exchange result self.new }
     {
         let judged = judge_exchange(&self.request, &self.in_flight, &self.state);
         if let Ok(at) = &judged {

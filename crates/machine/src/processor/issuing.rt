@@ -1,16 +1,7 @@
 //! The event `Issue`.
 
-ghost use Rattle.std.specs.Prelude.{◌≡◌, true, [], ◌∷◌, IfErr, Option, Ok};
-ghost use Rattle.sequential.specs.Replay.{boot};
-ghost use Rattle.sequential.specs.UnitIssues.{taken};
-ghost use Rattle.program_order.specs.declared.event.Done.TheVariants.{Issued};
 ghost use Rattle.program_order.specs.declared.event.Event.TheVariants.{Issue};
-ghost use Rattle.program_order.specs.declared.event.Note.{Note as SomeNote};
-ghost use Rattle.program_order.specs.Processor.{completed};
-ghost use Rattle.program_order.specs.Reached.{GoesOn};
-ghost use Rattle.program_order.specs.Refusals.{may_refuse};
-ghost use Rattle.program_order.specs.Run.{answer_of, settled};
-ghost use Rattle.program_order.specs.Telling.{IsNoted, IsWhy};
+ghost use Rattle.machine.specs.OneEvent.{IsEvent};
 
 use crate::{Answer, Done, Machine, Note};
 use judging::judge_issue;
@@ -23,17 +14,7 @@ impl Machine {
     /// The first that applies: `Halted`, `Faulted`, `Budget`, `BranchPending`, `ExchangeWaiting`, `FetchWait`,
     /// `UnitBusy` or `ResultReserved`. The machine is then unchanged.
     pub fn issue(&mut self) -> Answer
-        ensures answer { result ≡ answer_of self.old Issue }
-        ensures after { self.new ≡ settled self.old Issue result }
-        ensures named { IfErr result (λ refusal. may_refuse Issue refusal ≡ true) }
-        ensures reached { GoesOn self.old (Issue ∷ []) (result ∷ []) self.new }
-
-        // The call returns a reservation if and only if the instruction to which the log led goes to a unit.
-        ensures noted { (note : Option SomeNote) → result ≡ Ok (Issued note)
-            → IsNoted (completed self.old) (taken (boot self.new.boot_memory) self.new.log) note }
-
-        // What a refusal says about the state to which the log led.
-        ensures why { IfErr result (λ refusal. IsWhy (completed self.old) refusal) }
+        ensures { IsEvent self.old Issue result self.new }
     {
         let judged = judge_issue(
             &self.state,

@@ -1,10 +1,7 @@
 //! The events of memory: `Accept`, `Return` and `BankFree`.
 
-ghost use Rattle.std.specs.Prelude.{◌≡◌, true, [], ◌∷◌, IfErr};
 ghost use Rattle.program_order.specs.declared.event.Event.TheVariants.{Accept, Return, BankFree};
-ghost use Rattle.program_order.specs.Reached.{GoesOn};
-ghost use Rattle.program_order.specs.Refusals.{may_refuse};
-ghost use Rattle.program_order.specs.Run.{answer_of, settled};
+ghost use Rattle.machine.specs.OneEvent.{IsEvent};
 
 use crate::changing::perform;
 use crate::processor::made;
@@ -17,10 +14,7 @@ impl Machine {
     /// # Errors
     /// The first that applies: `Nothing`, `BankBusy` or `OlderAtAddress`. The machine is then unchanged.
     pub fn accept(&mut self, place: u8) -> Answer
-        ensures answer { result ≡ answer_of self.old (Accept place) }
-        ensures after { self.new ≡ settled self.old (Accept place) result }
-        ensures named { IfErr result (λ refusal. may_refuse (Accept place) refusal ≡ true) }
-        ensures reached { GoesOn self.old (Accept place ∷ []) (result ∷ []) self.new }
+        ensures { IsEvent self.old (Accept place) result self.new }
     {
         let accepted = self.in_flight.accept(place, &self.state.memory);
         if let Ok(reference) = &accepted {
@@ -34,10 +28,7 @@ impl Machine {
     /// # Errors
     /// The first that applies: `Nothing` or `ResultHeld`. The machine is then unchanged.
     pub fn return_load(&mut self, channel: u8) -> Answer
-        ensures answer { result ≡ answer_of self.old (Return channel) }
-        ensures after { self.new ≡ settled self.old (Return channel) result }
-        ensures named { IfErr result (λ refusal. may_refuse (Return channel) refusal ≡ true) }
-        ensures reached { GoesOn self.old (Return channel ∷ []) (result ∷ []) self.new }
+        ensures { IsEvent self.old (Return channel) result self.new }
     {
         let returned = self.in_flight.return_load(channel);
         if let Ok(arrival) = &returned {
@@ -53,10 +44,7 @@ impl Machine {
     /// # Errors
     /// `Nothing` if the bank isn't busy. The machine is then unchanged.
     pub fn bank_free(&mut self, bank: u8) -> Answer
-        ensures answer { result ≡ answer_of self.old (BankFree bank) }
-        ensures after { self.new ≡ settled self.old (BankFree bank) result }
-        ensures named { IfErr result (λ refusal. may_refuse (BankFree bank) refusal ≡ true) }
-        ensures reached { GoesOn self.old (BankFree bank ∷ []) (result ∷ []) self.new }
+        ensures { IsEvent self.old (BankFree bank) result self.new }
     {
         made(&self.in_flight.bank_free(bank))
     }

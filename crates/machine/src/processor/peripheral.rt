@@ -1,13 +1,7 @@
 //! The events of peripheral processors: `PpRead` and `PpWrite`.
 
-ghost use Rattle.std.specs.Prelude.{◌≡◌, true, [], ◌∷◌, IfErr, Ok, slice_index_or};
-ghost use Rattle.program_order.specs.declared.event.Done.{Done as SomeDone};
-ghost use Rattle.program_order.specs.declared.event.Done.TheVariants.{Word};
 ghost use Rattle.program_order.specs.declared.event.Event.TheVariants.{PpRead, PpWrite};
-ghost use Rattle.program_order.specs.Processor.{completed};
-ghost use Rattle.program_order.specs.Reached.{GoesOn};
-ghost use Rattle.program_order.specs.Refusals.{may_refuse};
-ghost use Rattle.program_order.specs.Run.{IsAnswer, settled};
+ghost use Rattle.machine.specs.OneEvent.{IsEvent};
 
 use crate::changing::perform;
 use crate::{Answer, Done, Machine};
@@ -29,14 +23,7 @@ impl Machine {
     /// The first that applies: `Budget`, `PeripheralWait`, `PeripheralRange` or `OutOfMemory`. The machine is then
     /// unchanged.
     pub fn pp_read(&mut self, at: u32) -> Answer
-        ensures answer { IsAnswer self.old (PpRead at) result }
-        ensures after { self.new ≡ settled self.old (PpRead at) result }
-        ensures named { IfErr result (λ refusal. may_refuse (PpRead at) refusal ≡ true) }
-        ensures reached { GoesOn self.old (PpRead at ∷ []) (result ∷ []) self.new }
-
-        // The word is that of the state to which the log leads.
-        ensures word { (done : SomeDone) → result ≡ Ok done
-            → done ≡ Word (slice_index_or (completed self.new).memory at 0) }
+        ensures { IsEvent self.old (PpRead at) result self.new }
     {
         let size = self.state.memory.size();
         judge_access(self.accessed, &self.in_flight, size, at)?;
@@ -56,10 +43,7 @@ impl Machine {
     /// The first that applies: `Budget`, `PeripheralWait`, `PeripheralRange` or `OutOfMemory`. The machine is then
     /// unchanged.
     pub fn pp_write(&mut self, at: u32, word: Word60) -> Answer
-        ensures answer { IsAnswer self.old (PpWrite at word) result }
-        ensures after { self.new ≡ settled self.old (PpWrite at word) result }
-        ensures named { IfErr result (λ refusal. may_refuse (PpWrite at word) refusal ≡ true) }
-        ensures reached { GoesOn self.old (PpWrite at word ∷ []) (result ∷ []) self.new }
+        ensures { IsEvent self.old (PpWrite at word) result self.new }
     {
         let size = self.state.memory.size();
         judge_access(self.accessed, &self.in_flight, size, at)?;

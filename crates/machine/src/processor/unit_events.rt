@@ -2,9 +2,9 @@
 
 ghost use Rattle.std.specs.Prelude.{◌≡◌, IfOk, MatchResult};
 ghost use Rattle.program_order.specs.declared.event.Event.TheVariants.{Read, Finish, Store};
-ghost use Rattle.program_order.specs.Run.{answer_of, settled};
 ghost use Rattle.in_flight.specs.Tests.{refusal_in};
 ghost use Rattle.program_order.specs.Events.{allowed, after};
+ghost use Rattle.machine.specs.OneEvent.{IsEvent};
 ghost use Rattle.machine.specs.inner.Storing.{IsStoreOf};
 
 use crate::processor::made;
@@ -18,16 +18,14 @@ use unit_ops::value;
 impl Machine {
     /// Reads all operands of a unit in one step.
     pub(crate) fn read_unit(&mut self, unit: Unit) -> Answer
-        ensures answer { result ≡ answer_of self.old (Read unit) }
-        ensures after { self.new ≡ settled self.old (Read unit) result }
+        ensures { IsEvent self.old (Read unit) result self.new }
     {
         made(&self.in_flight.read(unit, &self.state.registers))
     }
 
     /// Finishes a unit, which then has its value.
     pub(crate) fn finish_unit(&mut self, unit: Unit) -> Answer
-        ensures answer { result ≡ answer_of self.old (Finish unit) }
-        ensures after { self.new ≡ settled self.old (Finish unit) result }
+        ensures { IsEvent self.old (Finish unit) result self.new }
     {
         let judged = judge_finish(&self.in_flight, unit);
         if let Ok((pending, operands)) = &judged {
@@ -74,9 +72,9 @@ impl Machine {
 
     /// Stores a unit's result, makes its jump or its reference, and releases the unit.
     pub(crate) fn store_unit(&mut self, unit: Unit) -> Answer
-        ensures answer { result ≡ answer_of self.old (Store unit) }
-        ensures after { self.new ≡ settled self.old (Store unit) result }
+        ensures { IsEvent self.old (Store unit) result self.new }
     {
+        self.keeps_replay();
         made(&self.store_result(unit))
     }
 }

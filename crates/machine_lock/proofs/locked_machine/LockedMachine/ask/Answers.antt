@@ -1,7 +1,7 @@
-use Rattle.std.proofs.Common.{refl, ap}
+use Rattle.std.proofs.Common.{refl}
+use Rattle.std.proofs.lemmas.Result.{err_from_is_err_and}
 use Rattle.program_order.specs.declared.event.Event.TheVariants.{Ask}
-use Rattle.machine_lock.specs.Held.{Kept}
-use Rattle.machine_lock.proofs.Laws.{quiet_settled, kept_same, made_told}
+use Rattle.machine_lock.proofs.Laws.{quiet_settled, kept_same, held_event, held_plain}
 use Rattle.machine_lock.proofs.locked_machine.LockedMachine.ask.Goals as goal
 
 -- the request isn't logged
@@ -15,7 +15,8 @@ compare-requires g c = (
       refl,
 )
 
-pub returns-clause-answer : goal.returns-clause-answer
-returns-clause-answer g c =
-    made_told c.args.self.now.processor c.self.inside.machine (Ask c.args.at) c.ask-answer.result c.in_ok-answer.field-0 refl
-    c.ask-answer.ensures.answer c.in_ok-answer.was (ap (λ (k : Kept). k.processor) c.self.view_is)
+pub returns-clause-event : goal.returns-clause-event
+returns-clause-event g c =
+    held_plain (record { processor = c.self.inside.machine; is_ended = c.self.inside.is_ended }) c.args.self.now
+    c.ask-answer.new.self (Ask c.args.at) c.ask-answer.result c.in_ok-answer.field-0 refl c.self.view_is c.ask-answer.ensures
+    c.in_ok-answer.was

@@ -1,8 +1,7 @@
-use Rattle.std.proofs.Common.{refl, inl, ap}
-use Rattle.program_order.specs.declared.event.Done.TheVariants.{Made}
+use Rattle.std.proofs.Common.{refl}
+use Rattle.std.proofs.lemmas.Result.{err_from_is_err_and}
 use Rattle.program_order.specs.declared.event.Event.TheVariants.{Return}
-use Rattle.machine_lock.specs.Held.{Kept}
-use Rattle.machine_lock.proofs.Laws.{quiet_settled, kept_same, made_told, after_made}
+use Rattle.machine_lock.proofs.Laws.{held_event, held_plain, quiet_settled, kept_same}
 use Rattle.machine_lock.proofs.locked_machine.LockedMachine.return_load.Goals as goal
 
 -- the event isn't logged
@@ -30,12 +29,8 @@ invariant_of-self-2 g c = record {
   );
 }
 
-pub returns-clause-answer : goal.returns-clause-answer
-returns-clause-answer g c =
-    made_told c.args.self.now.processor c.self.inside.machine (Return c.args.channel) c.return_load-returned.result c.in_ok-returned.field-0 refl
-    (inl c.return_load-returned.ensures.answer) c.in_ok-returned.was (ap (λ (k : Kept). k.processor) c.self.view_is)
-
-pub returns-clause-after : goal.returns-clause-after
-returns-clause-after g c =
-    after_made (record { processor = c.self.inside.machine; is_ended = c.self.inside.is_ended }) c.args.self.now
-    c.return_load-returned.new.self (Return c.args.channel) c.return_load-returned.result c.in_ok-returned.field-0 Made c.self.view_is c.return_load-returned.ensures.after c.in_ok-returned.was
+pub returns : goal.returns
+returns g c =
+    held_plain (record { processor = c.self.inside.machine; is_ended = c.self.inside.is_ended }) c.args.self.now
+    c.return_load-returned.new.self (Return c.args.channel) c.return_load-returned.result c.in_ok-returned.field-0 refl c.self.view_is
+    c.return_load-returned.ensures c.in_ok-returned.was
