@@ -7,7 +7,9 @@ import subprocess
 import sys
 from contextlib import suppress
 from dataclasses import dataclass
+from functools import cache
 
+from cdc6600.gate.parts import is_test
 from cdc6600.shared.program import ROOT
 from cdc6600.shared.waiting import Missing, run
 
@@ -17,6 +19,13 @@ BROWSERS = {"Chromium": ("chromium", "chromedriver"), "Firefox": ("firefox-esr",
 OF_BROWSERS = sum(BROWSERS.values(), ())
 # A check that tries what it can without a program, and says what it left out.
 IN_PARTS = ("built-files",)
+# The programs of the list that are modules of Python. Those of the tests have to be in the same Python as pytest.
+MODULES = {"flake8": ("flake8",), "pytest": ("pytest",), "xdist": ("pytest", "xdist"),
+           "hypothesis": ("pytest", "hypothesis"), "pexpect": ("pytest", "pexpect"), "pyte": ("pytest", "pyte")}
+# Debian's packages put these modules into Debian's Python, which may be another than the one that runs this.
+PYTHONS = (sys.executable, "/usr/bin/python3")
+# What the list has for every check in the folder of tests.
+EVERY_TEST = "tests/"
 # How many seconds an installation waits for another one, and how many minutes it may take.
 PATIENCE, MINUTES = 600, 10
 
@@ -31,9 +40,13 @@ class Needed:
 
     def is_installed(self):
         """Whether the program is installed."""
-        if self.program == "flake8":
-            return bool(flake8())
+        if self.program in MODULES:
+            return bool(python_with(*MODULES[self.program]))
         return bool(shutil.which(os.environ.get("CC", "cc") if self.program == "cc" else self.program))
+
+    def is_for(self, check):
+        """Whether the check of this name needs the program."""
+        return check in self.checks or (EVERY_TEST in self.checks and is_test(check))
 
 
 def needed():
@@ -42,14 +55,12 @@ def needed():
     return [Needed(program, *(tuple(names.split(",")) for names in others)) for program, *others in lines]
 
 
-def flake8():
-    """The words that call flake8, or none if it isn't installed. Debian's package has no command of this name, but a
-    module of Debian's Python, which may be another than the one that runs this."""
-    for words in (["flake8"], [sys.executable, "-m", "flake8"], ["/usr/bin/python3", "-m", "flake8"]):
-        with suppress(OSError):
-            if not subprocess.run([*words, "--version"], capture_output=True, check=False).returncode:
-                return words
-    return []
+@cache
+def python_with(*modules):
+    """The Python that has these modules, or none."""
+    looked = f"from importlib.util import find_spec; exit(not all(map(find_spec, {modules})))"
+    pythons = (it for it in PYTHONS if os.access(it, os.X_OK))
+    return next((it for it in pythons if not subprocess.run([it, "-c", looked], check=False).returncode), None)
 
 
 def absent(programs=None):
@@ -61,7 +72,7 @@ def missing(check):
     """The lines of the programs for which the check of this name can't run. Of the browsers one is enough."""
     if check in IN_PARTS:
         return []
-    of_check = [it.program for it in needed() if check in it.checks]
+    of_check = [it.program for it in needed() if it.is_for(check)]
     if set(of_check) <= set(OF_BROWSERS):
         lacking = [absent(programs) for programs in BROWSERS.values()]
         return lacking[0] if of_check and all(lacking) else []
@@ -107,5 +118,6 @@ def provide():
     if not lines:
         return None
     if is_provided(lines):
+        python_with.cache_clear()
         return f"installed from Debian's packages: {names_of(lines)}"
     return f"not installed: {names_of(lines)}. The command for it: {how_to_install(lines)}"

@@ -4,8 +4,10 @@
     tools/check NAME ARGUMENT..      a check with arguments of its own
     tools/check NAME --help          prints what a check does
 
-docs/work/checks.md describes each check, and says when to run it. A check that finds nothing prints nothing. Its faults
-are printed, a line or a few lines for each. CDC6600 may name the program to try; otherwise it is the one that
+docs/work/checks.md describes each check, and says when to run it. A check that finds nothing prints nothing or a line
+of counts. Otherwise it prints its faults, a few lines for each. A check with a file in tests/ is run by pytest, and
+takes the arguments of pytest: `-k WORD` chooses cases by name, `--lf` runs those that failed last, and `-n 4` runs them
+in four processes. CDC6600 may name the program to try; otherwise it is the one that
 tools/build-program builds. CDC6600_LIBRARY may name the folder with the library that the tools ask. A check that calls
 a program which isn't installed says so, and ends; tools/debian-packages lists these programs.
 
@@ -22,14 +24,12 @@ import subprocess
 import sys
 import textwrap
 from importlib import import_module
-from importlib.util import find_spec
-from pathlib import Path
 
 from cdc6600.asking.library import KEPT, library_path
-from cdc6600.checks.debian import require
-from cdc6600.gate.parts import ASKING, NAMES, called, command, module
+from cdc6600.checks.debian import python_with, require
+from cdc6600.gate.parts import ASKING, NAMES, SHARED_OUT, called, command, file_of, is_test, module
 from cdc6600.shared.ending import shown
-from cdc6600.shared.program import ROOT
+from cdc6600.shared.program import ROOT, program_path
 
 HELP = ("-h", "--help")
 
@@ -42,19 +42,30 @@ def help_text():
 
 def text_of(name):
     """What a check says of itself. It isn't imported for that, since some checks look for the program then."""
-    return ast.get_docstring(ast.parse(Path(find_spec(module(name)).origin).read_text(encoding="utf-8")))
+    return ast.get_docstring(ast.parse((ROOT / file_of(name)).read_text(encoding="utf-8")))
+
+
+def run_test(name, words):
+    """Runs a check by pytest, in several processes if it takes long; its status. Those that failed are kept by the name
+    of the check, for --lf. The program is built before if it has to be."""
+    program_path()
+    processes = ["-n", str(min(SHARED_OUT[name], len(os.sched_getaffinity(0))))] if name in SHARED_OUT else []
+    options = ["-o", f"cache_dir=out/{name}", *processes, *words]
+    pytest = [python_with("pytest"), "-B", "-m", "pytest", file_of(name), *options]
+    ran = subprocess.run(pytest, cwd=ROOT, env={**os.environ, "PYTHONDONTWRITEBYTECODE": "1"}, check=False)
+    return 1 if ran.returncode else 0
 
 
 def run_one(name, words):
-    """Runs a check in this process; its status. A command that a shell starts in the background ignores interrupts, and
-    so would the commands that some checks interrupt."""
+    """Runs a check; its status. A command that a shell starts in the background ignores interrupts, and so would the
+    commands that some checks interrupt."""
     signal.signal(signal.SIGINT, signal.default_int_handler)
     sys.argv = [called(name), *words]
     require(name)
     if name in ASKING and library_path() == KEPT:
         # So none of the tools that the check calls has to look at the sources.
         os.environ["CDC6600_LIBRARY"] = str(KEPT.parent)
-    return import_module(module(name)).main()
+    return run_test(name, words) if is_test(name) else import_module(module(name)).main()
 
 
 def run_all(names):

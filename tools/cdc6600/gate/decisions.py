@@ -39,8 +39,9 @@ def names_with_parts(crates):
 
 
 def words_of_tools():
-    """The words of the tools' code."""
-    return {word for file in (ROOT / "tools").rglob("*.py") for word in WORD.findall(file.read_text(encoding="utf-8"))}
+    """The words of the code of tools and tests."""
+    files = (file for folder in ("tools", "tests") for file in (ROOT / folder).rglob("*.py"))
+    return {word for file in files for word in WORD.findall(file.read_text(encoding="utf-8"))}
 
 
 def faults_of_beginning(lines):

@@ -18,12 +18,12 @@ The parts, in their order:
   `must-fail`, in groups, over the libraries that `rt ci` left (tools/wrong-bodies --once, which keeps what it tried in
   the user's cache folder). A body with the verdict `can't tell` has neither passed nor failed, and the number of these
   is printed at the end;
-- decks (tools/cdc6600/checks): what the program prints for them, for the commands of the pages, for worked schedules,
-  for the largest decks, for those that are cut and bent, and where calls fail, when requests of both kinds are made,
-  what a run with and without threads prints for drawn decks, and which events take memory; that a run ends soon beside
-  other work; that sources are assembled, that emulators are compared with it, that pages of sessions say what the
-  machine does, that a machine is driven by hand, installed, run many times and called from C and JavaScript; then that
-  forgotten tokens are refused, and that `./cdc6600` builds no program of which a crate isn't proved.
+- decks (tests/ and tools/cdc6600/checks): what the program prints for them, for the commands of the pages, for worked
+  schedules, for the largest decks, for those that are cut and bent, and where calls fail, when requests of both kinds
+  are made, what a run with and without threads prints for drawn decks, and which events take memory; that a run ends
+  soon beside other work; that sources are assembled, that emulators are compared with it, that pages of sessions say
+  what the machine does, that a machine is driven by hand, installed, run many times and called from C and JavaScript;
+  then that forgotten tokens are refused, and that `./cdc6600` builds no program of which a crate isn't proved.
 
 docs/work/checks.md says what each check looks at; their names are in parts.py. A check that finds nothing says nothing.
 Where `rt ci` fails nothing more is tried.

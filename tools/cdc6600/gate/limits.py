@@ -25,6 +25,7 @@ from typing import Callable
 
 from cdc6600 import limits
 from cdc6600.crates.crate import crates
+from cdc6600.gate.parts import file_of
 from cdc6600.shared.decks import PAGES, deck, log_of, rows_of, session
 from cdc6600.shared.instructions import instruction
 from cdc6600.shared.program import ROOT
@@ -265,7 +266,7 @@ def named(path, *texts):
 
 def check(name, *words):
     """A check of the program, or a module of such checks."""
-    return named(f"tools/cdc6600/checks/{name}.py", *words)
+    return named(file_of(name), *words)
 
 
 def test(path, *words):

@@ -9,8 +9,8 @@
 - Calls: a table of calls, whose head begins with `Call`, names public calls of the crates that its page names above it.
   The page of all public calls is generated instead.
 - Paths: a path that begins with a folder of the repository is a file or a folder there, in the files of crates and in
-  pages. In the tools' sources this holds for tools and pages, since tests name decks and crates that they make. NAME
-  stands for any name, and so does the crate in `crates/crate/`; `*` has to match something.
+  pages. In the sources of tools and tests this holds for tools, tests and pages, since these sources name decks and
+  crates that they make. NAME stands for any name, and so does the crate in `crates/crate/`; `*` has to match something.
 - Links: the target of a link in a page is there, with the section if one is named. Targets in the web aren't looked up.
 - Decisions: docs/DECISIONS.md is the one page of its name. After its title and at most three sentences comes the table
   of the forms that differ from the intended ones. The first two cells of each row name something in backquotes that is
@@ -48,10 +48,10 @@ INSTRUCTIONS = {re.match("[A-Z]+", row.text)[0] for row in ROWS.values()}
 # Other words of comments: the program, and the folder of a crate's definitions.
 OTHERS = {"cdc6600", "specs"}
 
-PATH = re.compile(r"(?<![\w/.-])(?:crates|decks|docs|tools|bench|\.ci)/[\w./*-]*")
+PATH = re.compile(r"(?<![\w/.-])(?:crates|decks|docs|tools|tests|bench|\.ci)/[\w./*-]*")
 PLACEHOLDER = re.compile(r"\bNAME\b|^crates/crate/")
 # What the sources of tools may not name falsely.
-OF_TOOLS = ("tools/", "docs/", "bench/", ".ci/")
+OF_TOOLS = ("tools/", "tests/", "docs/", "bench/", ".ci/")
 # A name with parts that stands for any.
 ANY_NAME = "Type::function"
 KINDS = (".rt", ".antt", ".edit", ".h", ".c", ".rs", ".py")
@@ -184,7 +184,7 @@ def faults_of_paths(name, lines):
     for number, line in enumerate(lines, 1):
         for found in PATH.findall(line):
             path = found.removesuffix("**").rstrip(".")
-            is_made = name.startswith("tools/") and not path.startswith(OF_TOOLS)
+            is_made = name.startswith(("tools/", "tests/")) and not path.startswith(OF_TOOLS)
             if not is_there(path) and not is_made:
                 yield f"{name}:{number}: there is no {path}"
 
@@ -211,7 +211,7 @@ def faults_of_links(page, lines):
 def main():
     faults, pages = [*faults_of_names(), *faults_of_beginnings()], tracked("*.md")
     faults += faults_of_decisions(pages, CRATES.values(), WORDS)
-    for name in [path for path in tracked("crates", "tools", "bench") if path.endswith(KINDS)] + pages:
+    for name in [path for path in tracked("crates", "tools", "tests", "bench") if path.endswith(KINDS)] + pages:
         lines = (ROOT / name).read_text(encoding="utf-8").split("\n")
         faults += faults_of_paths(name, lines)
         faults += faults_of_parts(name, lines) if name.endswith((".rt", ".md")) else []

@@ -1,5 +1,10 @@
-"""The checks by their names, in the parts of the gate. `tools/check NAME` runs one."""
+"""The checks by their names, in the parts of the gate. `tools/check NAME` runs one. Pytest runs a check with a file in
+the folder of tests; any other check is a module of `checks` or of `gate`.
+"""
 
+from cdc6600.shared.program import ROOT
+
+TESTS = "tests"
 # They look at sources and pages alone, and take seconds.
 SMALL = ("definitions", "generated", "examples", "sizes", "limits", "words", "names", "layout", "readings",
          "edits", "style", "where-test")
@@ -8,7 +13,7 @@ BODIES = "wrong-bodies-test"
 BUILDING = ("spent-tokens", "build-program-test")
 # They try the program and the tools.
 DECKS = (
-    "decks", "pages", "assembler", "image", "schedules", "both-kinds", "busy", "threads", "sequential", "large",
+    "decks", "pages", "assembler", "image", "both-kinds", "busy", "threads", "sequential", "large",
     "mutations", "failures", "allocations", "emulators", "trace", "random-sessions", "values", "operate", "scheduling",
     "exploring", "cycles", "browser", "driving", "progress", "habits", "launcher", "archive", "many-jobs",
     "tool-failures", "embedding", "module", "built-files",
@@ -19,6 +24,8 @@ ASKING = (
     "browser", "driving", "habits", "archive", "tool-failures",
 )
 NAMES = (*SMALL, BODIES, *DECKS, *BUILDING)
+# The tests that run in several processes, and in how many at most.
+SHARED_OUT = {"decks": 2}
 # Those whose modules are in the folder of the gate.
 OF_GATE = (*SMALL, "spent-tokens")
 
@@ -38,6 +45,16 @@ def module(name):
     return f"cdc6600.{'gate' if name in OF_GATE else 'checks'}.{name.replace('-', '_')}"
 
 
+def test_of(name):
+    """The path that a check's file has if pytest runs it."""
+    return f"{TESTS}/test_{name.replace('-', '_')}.py"
+
+
+def is_test(name):
+    """Whether pytest runs a check."""
+    return (ROOT / test_of(name)).is_file()
+
+
 def file_of(name):
     """The path of a check's source."""
-    return f"tools/{module(name).replace('.', '/')}.py"
+    return test_of(name) if is_test(name) else f"tools/{module(name).replace('.', '/')}.py"

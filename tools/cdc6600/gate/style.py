@@ -7,7 +7,7 @@ Run it after a change of the tools.
 import subprocess
 import sys
 
-from cdc6600.checks.debian import flake8
+from cdc6600.checks.debian import python_with
 from cdc6600.shared.program import ROOT
 
 SHEBANG = b"python3"
@@ -28,6 +28,7 @@ def sources():
 
 
 def main():
-    ran = subprocess.run([*flake8(), *sources()], cwd=ROOT, stdout=subprocess.PIPE, text=True, check=False)
+    words = [python_with("flake8"), "-m", "flake8", *sources()]
+    ran = subprocess.run(words, cwd=ROOT, stdout=subprocess.PIPE, text=True, check=False)
     sys.stdout.write(ran.stdout)
     return 1 if ran.returncode else 0

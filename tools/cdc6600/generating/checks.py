@@ -14,7 +14,9 @@ INTRODUCTION = """# The checks
 `.ci/run` all of them ([CHANGING.md](CHANGING.md#the-gate)). `tools/check NAME --help` says all that a check does. A
 check that finds nothing prints nothing, or a line of counts; otherwise it prints a line or a few for each fault.
 `CDC6600=PROGRAM` before a command names the program to try; otherwise it is the one that `tools/build-program` builds.
-A browser is Chromium with `chromedriver`, or Firefox.
+A check with a file in `tests/` is run by pytest, and takes the arguments of pytest: `-k WORD` chooses cases by name,
+`--lf` runs those that failed last, and `-n 4` runs them in four processes. A browser is Chromium with `chromedriver`,
+or Firefox.
 """
 GROUPS = (
     ("The small checks read sources and pages alone, and take seconds", SMALL),

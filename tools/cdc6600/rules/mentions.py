@@ -194,7 +194,8 @@ def beside_crates(label):
         found = matching(path, lambda line: LEGEND not in line and label.is_in(line))
         if found:
             yield "deck", Mention(path, found[0].number, f"{len(found)} line{'s' * (len(found) > 1)}")
-    tools = [path for path in below("tools/cdc6600", "*.py") if not path.startswith(EXAMPLES)]
+    python = [*below("tools/cdc6600", "*.py"), *below("tests", "*.py")]
+    tools = [path for path in python if not path.startswith(EXAMPLES)]
     pages = [path for path in (*below("docs", "*.md"), "README.md") if path != PAGE]
     for heading, paths in (("tool", tools), ("page", pages)):
         yield from ((heading, mention) for path in paths for mention in matching(path, label.is_in))

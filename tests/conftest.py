@@ -1,0 +1,24 @@
+"""The fixtures of the tests, and what pytest prints."""
+
+from __future__ import annotations
+
+import os
+
+import pytest
+from running import Runner
+
+from cdc6600.shared.program import Program
+
+
+@pytest.fixture(scope="session")
+def program() -> Runner:
+    """The program that CDC6600 names, or the one that is built of the sources as they are. The tools that a test calls
+    run it too, so that none of them has to look at the sources."""
+    path = Program().path
+    os.environ.setdefault("CDC6600", path)
+    return Runner(path)
+
+
+def pytest_report_teststatus(report: pytest.TestReport) -> tuple[str, str, str] | None:
+    """Prints nothing for a case that passes."""
+    return ("passed", "", "") if report.passed and report.when == "call" else None
