@@ -3,11 +3,11 @@ use Rattle.std.proofs.Common.{◌≡◌, ℕ, length, Bool, true, false, List, [
 use Rattle.std.proofs.Common.{sym, ap}
 use Rattle.std.proofs.Common.{◌∙◌, subst, get_or, inl, inr}
 use Rattle.std.proofs.lemmas.List.{append-nil}
-use Rattle.std.specs.Prelude.{Result, Ok, Err, IfErr, MatchResult}
+use Rattle.std.specs.Prelude.{Result, Ok, Err, MatchResult}
 use Rattle.instructions.specs.declared.refusal.Refusal.{Refusal}
 use Rattle.instructions.specs.declared.refusal.Refusal.TheVariants.{Budget}
 use Rattle.sequential.specs.Log.{issued}
-use Rattle.program_order.specs.Invariant.{IsWithinBudget}
+use Rattle.program_order.specs.Invariant.{IsReplay, IsWithinBudget}
 use Rattle.sequential.specs.Replay.{LogStep, Issued, Exchanged, ReadAt, Wrote, boot, replay}
 use Rattle.sequential.specs.UnitIssues.{taken}
 use Rattle.program_order.specs.declared.event.Done.{Done}
@@ -20,20 +20,21 @@ use Rattle.program_order.specs.Events.{after, allowed}
 use Rattle.program_order.specs.Headline.{exchange_step, made_steps}
 use Rattle.program_order.specs.Processor.{Processor, completed, replayed}
 use Rattle.program_order.specs.Run.{IsAnswer, answer_by, answer_of, done_by, settled}
-use Rattle.program_order.specs.Refusals.{may_refuse}
 use Rattle.program_order.specs.Telling.{IsNoted, IsWhy}
 use Rattle.machine_lock.proofs.Budgets.{exchange_budget, issue_budget}
 use Rattle.program_order.proofs.keeping.Numbering.{ok_done}
 use Rattle.program_order.proofs.keeping.Telling.{exchange_asked}
 use Rattle.program_order.proofs.theorem.Headline.{Books, books_after}
 use Rattle.program_order.proofs.theorem.Theorem.{made_allowed}
+use Rattle.atomic_table.specs.Seated.{TableId}
 use Rattle.atomic_table.specs.Table.{Me}
+use Rattle.atomic_table.specs.declared.shared.Seat.{Seat}
 use Rattle.progress_word.specs.CallerKnowledge.{Known, known, StartsWith, IsMade, Learnt, IsNoteOf}
 use Rattle.progress_word.specs.CallerKnowledge.{IsWhyOf}
 use Rattle.progress_word.specs.CallerKnowledge.{Booted, booted_by, booted_with, HasReplay, IsWordOf}
 use Rattle.machine.specs.OneEvent.{IsEvent}
 use Rattle.machine_lock.specs.Held.{IsCurrent, IsHeldEvent, Kept, with_processor}
-use Rattle.machine_lock.specs.inner.LockInvariant.{IsLogged, last_step}
+use Rattle.machine_lock.specs.inner.LockInvariant.{IsLocked, IsLogged, last_step}
 use Rattle.progress_word.specs.inner.Rules.{History, Knowing, history, past, keeper, caller, Continues}
 
 -- ---- what an answer has ----
@@ -503,6 +504,14 @@ compared v p m n old ep em en begins =
 pub kept_same : (w v : Processor) (p q : Me ℕ Knowing) → p ≡ (keeper (past w), []) → past v ≡ past w → q ≡ p
     → q ≡ (keeper (past v), [])
 kept_same w v p q ep ev eq = eq ∙ ep ∙ ap (λ h. (keeper h, [])) (sym ev)
+
+-- an event that isn't logged keeps what the lock protects right
+pub quiet_kept : {table : TableId} (w v : Processor) (pass : Seat ℕ Knowing) (e : Event) (a : Result Done Refusal)
+    → is_quiet e ≡ true → IsEvent w e a v → IsLocked table w pass → IsReplay v → IsLocked table v pass
+quiet_kept w v pass e a q h k r = record {
+  replay = r;
+  seen = (k.seen.0, kept_same w v pass.me pass.me k.seen.1 (quiet_settled w v e a q h.after) refl);
+}
 
 -- the caller has seen the log of a machine whose state is kept equal to its replay
 pub replay_by : (v : Processor) (n : Me ℕ Knowing) → replayed v ≡ Some (completed v) → past_by n ≡ past v

@@ -332,7 +332,6 @@ impl<K: Naming> LockedMachine<K> {
     ///
     /// # Errors
     /// `BankBusy` or `OlderAtAddress`. `Nothing` if the place is empty.
-    #[tactic(auto, unfolding(program_order::specs::Refusals::may_refuse))]
     pub fn accept(&mut self, place: u8) -> Result<(), Refusal>
         ensures { IsHeldEvent self.old (Accept place) (made_or_refused result) self.new }
     {
@@ -347,7 +346,6 @@ impl<K: Naming> LockedMachine<K> {
     ///
     /// # Errors
     /// `ResultHeld`. `Nothing` if the channel is empty.
-    #[tactic(auto, unfolding(program_order::specs::Refusals::may_refuse))]
     pub fn return_load(&mut self, channel: u8) -> Result<(), Refusal>
         ensures { IsHeldEvent self.old (Return channel) (made_or_refused result) self.new }
     {
@@ -362,7 +360,6 @@ impl<K: Naming> LockedMachine<K> {
     ///
     /// # Errors
     /// `Nothing` if the bank isn't busy.
-    #[tactic(auto, unfolding(program_order::specs::Refusals::may_refuse))]
     pub fn bank_free(&mut self, bank: u8) -> Result<(), Refusal>
         ensures { IsHeldEvent self.old (BankFree bank) (made_or_refused result) self.new }
     {

@@ -1,33 +1,17 @@
 use Rattle.std.proofs.Common.{refl}
-use Rattle.std.proofs.lemmas.Result.{err_from_is_err_and}
 use Rattle.program_order.specs.declared.event.Event.TheVariants.{Accept}
-use Rattle.machine_lock.proofs.Laws.{held_event, held_plain, quiet_settled, kept_same}
+use Rattle.machine_lock.proofs.Laws.{held_plain, quiet_kept}
 use Rattle.machine_lock.proofs.locked_machine.LockedMachine.accept.Goals as goal
 
--- the event isn't logged
 pub invariant_of-self : goal.invariant_of-self
-invariant_of-self g c = record {
-  replay = c.keeps_replay.ensures.replay;
-  seen = (
-    c.self.invariant.seen.0,
-    kept_same c.self.inside.machine c.accept-accepted.new.self c.self.inside.pass.me c.self.inside.pass.me
-        c.self.invariant.seen.1
-        (quiet_settled c.self.inside.machine c.accept-accepted.new.self (Accept c.args.place) c.accept-accepted.result refl c.accept-accepted.ensures.after)
-        refl,
-  );
-}
+invariant_of-self g c =
+    quiet_kept c.self.inside.machine c.accept-accepted.new.self c.self.inside.pass (Accept c.args.place) c.accept-accepted.result refl
+    c.accept-accepted.ensures c.self.invariant c.keeps_replay.ensures.replay
 
 pub invariant_of-self-2 : goal.invariant_of-self-2
-invariant_of-self-2 g c = record {
-  replay = c.keeps_replay.ensures.replay;
-  seen = (
-    c.self.invariant.seen.0,
-    kept_same c.self.inside.machine c.accept-accepted.new.self c.self.inside.pass.me c.self.inside.pass.me
-        c.self.invariant.seen.1
-        (quiet_settled c.self.inside.machine c.accept-accepted.new.self (Accept c.args.place) c.accept-accepted.result refl c.accept-accepted.ensures.after)
-        refl,
-  );
-}
+invariant_of-self-2 g c =
+    quiet_kept c.self.inside.machine c.accept-accepted.new.self c.self.inside.pass (Accept c.args.place) c.accept-accepted.result refl
+    c.accept-accepted.ensures c.self.invariant c.keeps_replay.ensures.replay
 
 pub returns : goal.returns
 returns g c =

@@ -1,7 +1,6 @@
 use Rattle.std.proofs.Common.{refl}
-use Rattle.std.proofs.lemmas.Result.{err_from_is_err_and}
 use Rattle.program_order.specs.declared.event.Event.TheVariants.{Ask}
-use Rattle.machine_lock.proofs.Laws.{quiet_settled, kept_same, held_event, held_plain}
+use Rattle.machine_lock.proofs.Laws.{quiet_settled, kept_same, held_plain}
 use Rattle.machine_lock.proofs.locked_machine.LockedMachine.ask.Goals as goal
 
 -- the request isn't logged

@@ -2,7 +2,7 @@ use Rattle.std.proofs.Common.{ap, refl, sym}
 use Rattle.program_order.specs.declared.event.Event.TheVariants.{Exchange}
 use Rattle.std.proofs.lemmas.Result.{err_from_is_err_and}
 use Rattle.machine_lock.specs.Held.{Kept}
-use Rattle.machine_lock.proofs.Laws.{exchange_logged, exchange_made, exchange_why, held_event, held_plain}
+use Rattle.machine_lock.proofs.Laws.{exchange_logged, exchange_made, exchange_why, held_plain}
 use Rattle.machine_lock.proofs.locked_machine.LockedMachine.exchange.Goals as goal
 
 pub record_or_compare-requires-clause-logged : goal.record_or_compare-requires-clause-logged

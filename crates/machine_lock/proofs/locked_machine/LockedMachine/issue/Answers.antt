@@ -1,8 +1,7 @@
 use Rattle.std.proofs.Common.{◌≡◌, ◌∙◌, refl, rules}
 use Rattle.std.proofs.lemmas.Result.{err_from_is_err_and}
 use Rattle.std.specs.Prelude.{Ok}
-use Rattle.program_order.specs.declared.event.Event.TheVariants.{Issue}
-use Rattle.machine_lock.proofs.Laws.{held_event, held_issue, issue_logged, issue_made, issue_why, note_in}
+use Rattle.machine_lock.proofs.Laws.{held_issue, issue_logged, issue_made, issue_why, note_in}
 use Rattle.machine_lock.proofs.locked_machine.LockedMachine.issue.Goals as goal
 use Rattle.machine_lock.proofs.locked_machine.LockedMachine.issue.Goals.{in-Issued, in-Word}
 

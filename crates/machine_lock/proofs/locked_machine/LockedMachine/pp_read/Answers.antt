@@ -1,8 +1,7 @@
 use Rattle.std.proofs.Common.{◌≡◌, ◌∙◌, refl, rules}
-use Rattle.std.proofs.lemmas.Result.{err_from_is_err_and}
 use Rattle.std.specs.Prelude.{Ok}
 use Rattle.program_order.specs.declared.event.Event.TheVariants.{PpRead}
-use Rattle.machine_lock.proofs.Laws.{access_logged, access_made, held_event, held_read, word_in, word_of}
+use Rattle.machine_lock.proofs.Laws.{access_logged, access_made, held_read, word_in, word_of}
 use Rattle.machine_lock.proofs.locked_machine.LockedMachine.pp_read.Goals as goal
 use Rattle.machine_lock.proofs.locked_machine.LockedMachine.pp_read.Goals.{in-Issued, in-Word}
 

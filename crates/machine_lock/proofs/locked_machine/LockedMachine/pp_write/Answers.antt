@@ -1,7 +1,6 @@
 use Rattle.std.proofs.Common.{refl}
-use Rattle.std.proofs.lemmas.Result.{err_from_is_err_and}
 use Rattle.program_order.specs.declared.event.Event.TheVariants.{PpWrite}
-use Rattle.machine_lock.proofs.Laws.{access_logged, access_made, held_event, held_plain}
+use Rattle.machine_lock.proofs.Laws.{access_logged, access_made, held_plain}
 use Rattle.machine_lock.proofs.locked_machine.LockedMachine.pp_write.Goals as goal
 
 pub record_or_compare-requires-clause-logged : goal.record_or_compare-requires-clause-logged
