@@ -13,7 +13,7 @@ BODIES = "wrong-bodies-test"
 BUILDING = ("spent-tokens", "build-program-test")
 # They try the program and the tools.
 DECKS = (
-    "decks", "pages", "assembler", "image", "both-kinds", "busy", "threads", "sequential", "large",
+    "decks", "pages", "assembler", "image", "busy", "threads", "sequential", "large",
     "mutations", "failures", "allocations", "emulators", "trace", "random-sessions", "values", "operate", "scheduling",
     "exploring", "cycles", "browser", "driving", "progress", "habits", "launcher", "archive", "many-jobs",
     "tool-failures", "embedding", "module", "built-files",
@@ -25,7 +25,7 @@ ASKING = (
 )
 NAMES = (*SMALL, BODIES, *DECKS, *BUILDING)
 # The tests that run in several processes, and in how many at most.
-SHARED_OUT = {"decks": 2}
+SHARED_OUT = {"decks": 4, "pages": 4, "sequential": 4, "trace": 4}
 # Those whose modules are in the folder of the gate.
 OF_GATE = (*SMALL, "spent-tokens")
 
