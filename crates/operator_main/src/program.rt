@@ -184,32 +184,34 @@ fn carry_out<T: Threads + Wait + Clock + Sync, I: Input, O: Output>(
     }
 }
 
-/// Carries out a request on the streams and reports its fault. A buffered reader saves a system call for each byte.
-/// Returns the exit status.
+/// Carries out a request on an input and reports its fault, with its position or without. A buffered reader saves a
+/// system call for each byte. Returns the exit status.
 fn perform<T: Threads + Wait + Clock + Sync, R: Read, W: Write, F: Write>(
     rt: &T,
     alloc: Global,
     request: &Request<'_>,
-    streams: &mut Streams<R, W, F>,
+    input: &mut R,
+    output: &mut W,
+    faults: &mut F,
+    with_position: bool,
 ) -> u8
-    ensures { EndsWith streams.old.is_at_terminal result
-        (λ end. Performed request.now end (R.remaining streams.old.input) (W.contents streams.old.output)
-        (W.contents streams.new.output)) (F.contents streams.old.faults) (F.contents streams.new.faults) }
+    ensures { EndsWith with_position result
+        (λ end. Performed request.now end (R.remaining input.old) (W.contents output.old) (W.contents output.new))
+        (F.contents faults.old) (F.contents faults.new) }
 {
-    let is_at_terminal = streams.is_at_terminal;
-    let faults = &mut streams.faults;
-    let Ok(mut reader) = BufReader::new(alloc, &mut streams.input) else {
-        return report(faults, ProgramFault::OutOfMemory, b"", is_at_terminal);
+    let Ok(mut reader) = BufReader::new(alloc, &mut *input) else {
+        let fault = ProgramFault::OutOfMemory;
+        return report(faults, fault, b"", with_position);
     };
     let mut input = CheckedBufReader::new(&mut reader);
-    let mut output = CheckedWriter::new(&mut streams.output);
+    let mut output = CheckedWriter::new(&mut *output);
     let mut line = LineBuffer::new();
     let ended = carry_out(rt, alloc, request, &mut input, &mut output, &mut line);
     // The proof reads what the output holds from this use, which has no other effect.
     let _ = &*output.into_inner();
     match ended {
         Ok(status) => status.code(),
-        Err(fault) => report(faults, fault, line.as_slice(), is_at_terminal),
+        Err(fault) => report(faults, fault, line.as_slice(), with_position),
     }
 }
 
@@ -225,7 +227,13 @@ pub fn program<T: Threads + Wait + Clock + Sync, R: Read, W: Write, F: Write>(
         (F.contents streams.old.faults) (F.contents streams.new.faults) }
 {
     match read_arguments(alloc, words) {
-        Ok(request) => perform(rt, alloc, &request, streams),
+        Ok(request) => {
+            let input = &mut streams.input;
+            let output = &mut streams.output;
+            let faults = &mut streams.faults;
+            let with_position = streams.is_at_terminal;
+            perform(rt, alloc, &request, input, output, faults, with_position)
+        }
         Err(error) => report_usage(&mut streams.output, &mut streams.faults, error),
     }
 }

@@ -19,7 +19,7 @@ pub fn words(alloc: Global, texts: &[&str]) -> Result<Vec<String>, AllocError> {
 
 /// Calls the program with these arguments and this input. Returns the exit status, the output and the text on the fault
 /// stream.
-pub fn called<R: Read>(
+pub fn called<R: Read + Drop>(
     rt: &(impl AllocGlobal + Threads + Wait + Clock + Sync),
     texts: &[&str],
     input: R,
