@@ -13,8 +13,9 @@ MOST_LINES = 10_000_000
 # The `show` lines of a deck, and its `ask` lines.
 MOST_SHOWS = 64
 MOST_ASKS = 64
-# The bytes of a line that are read: one more than a line may have.
-READ_OF_A_LINE = 201
+# The bytes of a line. One more is read of a longer line.
+LONGEST_LINE = 200
+READ_OF_A_LINE = LONGEST_LINE + 1
 # The instructions of a run, of an entry of a log and of an `ask` line, and those of a run without a budget of its own.
 MOST_INSTRUCTIONS = 10_000_000
 DEFAULT_BUDGET = 1_000_000

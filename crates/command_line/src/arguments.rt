@@ -2,7 +2,8 @@ use crate::version::VERSION;
 use clap::builder::ValueParser;
 use clap::error::ErrorKind;
 use clap::{Arg, ArgAction, ArgMatches, Command, Error};
-use operator_terms::{Budget, LARGEST_BUDGET};
+use instructions::MOST_ISSUES;
+use operator_terms::Budget;
 use std::alloc::{AllocError, Global};
 
 /// The end of the text that `--help` prints for the program. The texts for its commands follow below.
@@ -70,7 +71,7 @@ fn budget_option<'a>(alloc: Global) -> Arg<'a> {
     Arg::new(alloc, "budget")
         .long("budget")
         .value_name("N")
-        .value_parser(ValueParser::unsigned(1, LARGEST_BUDGET))
+        .value_parser(ValueParser::unsigned(1, MOST_ISSUES))
         .default_value("1000000")
         .help("Issues at most N instructions")
 }

@@ -8,23 +8,13 @@ ghost use Rattle.contents_text.specs.Contents.{fetched_text, next_text, position
 
 use crate::conflicts::{put_reserved, put_unread};
 use device_text::{Output, Piece, WriteFailed, put_pieces};
+use hopper::PLACES;
 use in_flight::Stage;
 use instruction_table::{Halt, Unit};
+use instructions::{FIRST_CHANNEL, PAST_CHANNELS};
 use machine::Machine;
-use relocation::Access;
+use relocation::{Access, BANKS};
 use sequential::{Fetched, ProgramPosition, State};
-
-/// The number of places in the hopper.
-pub(crate) const PLACES: u8 = 4;
-
-/// The number of the first load channel.
-const FIRST_CHANNEL: u8 = 1;
-
-/// The number after that of the last load channel.
-const PAST_CHANNELS: u8 = 6;
-
-/// The number of banks.
-const BANKS: u8 = 32;
 
 /// A part of the machine whose contents can be written.
 #[derive(Clone, Copy, Drop)]
@@ -145,7 +135,7 @@ fn put_entry<O: Output>(output: &mut O, machine: &Machine, place: u8) -> Result<
 fn put_hopper<O: Output>(output: &mut O, machine: &Machine) -> Result<(), WriteFailed>
     ensures { Puts O.Output result output.old output.new (hopper_text machine.now.pending) }
 {
-    for place in 0..PLACES {
+    for place in 0..PLACES as u8 {
         put_entry(output, machine, place)?;
     }
     Ok(())
@@ -198,7 +188,7 @@ fn put_bank<O: Output>(output: &mut O, machine: &Machine, bank: u8) -> Result<()
 fn put_banks<O: Output>(output: &mut O, machine: &Machine) -> Result<(), WriteFailed>
     ensures { Puts O.Output result output.old output.new (banks_text machine.now.busy) }
 {
-    for bank in 0..BANKS {
+    for bank in 0..BANKS as u8 {
         put_bank(output, machine, bank)?;
     }
     Ok(())

@@ -9,9 +9,8 @@ ghost use Rattle.contents_text.specs.Holding.{holders_of, holds_found, holds_kin
 ghost use Rattle.contents_text.specs.Holding.{number_at, number_in};
 ghost use Rattle.job_deck.specs.AnswerText.{answer_line};
 
-use crate::contents::PLACES;
 use device_text::{Output, Piece, WriteFailed, put_pieces};
-use hopper::Reference;
+use hopper::{PLACES, Reference};
 use in_flight::{Located, Pending};
 use instruction_table::{Refusal, Unit};
 use job_deck::put_answer;
@@ -34,7 +33,7 @@ fn number_in<K>(found: &Option<Located<K>>) -> u64
 fn in_place(machine: &Machine, place: u8) -> Option<Located<Reference>>
     ensures { result ≡ located (seek (entry_at place) machine.now.pending) }
 {
-    if place < PLACES {
+    if place < PLACES as u8 {
         machine.in_hopper(place)
     } else {
         machine.keeps_limits();

@@ -1,5 +1,4 @@
-//! Tests of the crates below `in_flight`, and of the order of requests in `exchange_requests`, through their public
-//! items. This crate exports nothing.
+//! Tests of the crates below `in_flight`, through their public items. This crate exports nothing.
 //!
 //! There is a file for each crate or subject. Tables give instructions as text. `fixtures` has registers and words in
 //! forms that constants can hold. The first table is `RESERVES_A_FREE_UNIT`: calls to a new scoreboard, one a row, with
@@ -10,8 +9,6 @@
 mod board_tests;
 #[cfg(test)]
 mod exchange_package_tests;
-#[cfg(test)]
-mod exchange_requests_tests;
 #[cfg(test)]
 mod fixtures;
 #[cfg(test)]

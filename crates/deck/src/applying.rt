@@ -9,6 +9,7 @@ ghost use Rattle.deck.specs.declared.deck.Draft.{Draft as SomeDraft};
 ghost use Rattle.deck.specs.declared.parsing.Line.TheVariants as says;
 ghost use Rattle.deck.specs.Reading.{Answers, Begins};
 ghost use Rattle.deck.specs.inner.ParsedLine.{line_with_bytes};
+ghost use Rattle.device_text.specs.declared.line.TheConstants.{LONGEST_LINE};
 
 use crate::Image;
 use crate::coding::{parcels_in, word_of};
@@ -17,15 +18,11 @@ use crate::line_list::{LINES_OF_A_KIND, LineList};
 use crate::parsing::{Line, parse_line};
 use device_text::{first_part, number};
 use instruction_table::{DeckFault, Refusal};
+use instructions::MOST_ISSUES;
+use parcel::PARCELS;
 use relocation::{LARGEST, SMALLEST, package_fits};
 use std::alloc::Global;
 use word60::{Word18, Word60};
-
-/// The largest number of instructions in an `ask` line.
-const LATEST_ASK: u64 = 10_000_000;
-
-/// The largest number of parcels in a `code` line: as many as a word has.
-const MOST_PARCELS: usize = 4;
 
 /// Parses the memory size of a `core` line.
 ///
@@ -117,14 +114,14 @@ impl Draft {
 
     /// Applies a `code` line.
     fn code_line(&mut self, texts: &[u8]) -> Result<Flow, DeckFault>
-        requires { length texts.now ≤ 200 }
+        requires { length texts.now ≤ LONGEST_LINE }
         ensures { Answers result self.old self.new (applied self.old (says.Code texts.now)) }
     {
         if self.next_address >= self.image.size() {
             return Err(DeckFault::Range);
         }
         let parcels = parcels_in(texts).ok_or(DeckFault::Instruction)?;
-        if parcels.len() > MOST_PARCELS {
+        if parcels.len() > PARCELS {
             return Err(DeckFault::Full);
         }
         let word = word_of(parcels.as_slice());
@@ -190,7 +187,7 @@ impl Draft {
     {
         let at = number(8, 6, address).ok_or(DeckFault::Number)? as u32;
         let count = number(10, 8, count).ok_or(DeckFault::Number)?;
-        if count > LATEST_ASK {
+        if count > MOST_ISSUES {
             return Err(DeckFault::Number);
         }
         self.check_request(at)?;
@@ -216,7 +213,7 @@ impl Draft {
     /// # Errors
     /// The fault of the line. The draft is then unchanged.
     pub fn apply(&mut self, text: &[u8]) -> Result<Flow, DeckFault>
-        requires { length text.now ≤ 200 }
+        requires { length text.now ≤ LONGEST_LINE }
         ensures { Answers result self.old self.new (applied_line (Some self.old) text.now) }
     {
         match parse_line(text) {

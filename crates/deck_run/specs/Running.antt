@@ -11,7 +11,7 @@ use Rattle.deck.specs.Deck.{Reading, Good, Bad}
 use Rattle.deck.specs.declared.deck.Deck.{Deck}
 use Rattle.job_deck.specs.Dump.{dump_text}
 use Rattle.job_deck.specs.Replaying.{Replays, ReplaysFollowing}
-use Rattle.sequential_job.specs.Running.{RunsSequentially, asks_after}
+use Rattle.job_deck.specs.Running.{RunsSequentially, asks_after}
 use Rattle.sequential_run.specs.Run.{IsRun}
 use Rattle.operator_terms.specs.declared.fault.ProgramFault.{ProgramFault}
 use Rattle.operator_terms.specs.declared.fault.ProgramFault.TheVariants as faults

@@ -7,10 +7,10 @@ ghost use Rattle.deck_run.specs.Running.{is_read_fault, is_write_fault, replay_e
 use super::running::run;
 use job_deck::{
     Deck, Input, LineBuffer, Output, dump_to, read_deck_from, replay_following_to, replay_to,
+    run_sequentially_to,
 };
 use operator_terms::{Budget, ProgramFault, Status, end_status};
 use sequential::State;
-use sequential_job::run_to;
 use std::alloc::Global;
 use std::sync::Wait;
 use std::thread::Threads;
@@ -89,7 +89,7 @@ pub fn run_deck_sequentially<I: Input, O: Output>(
     ensures kept { NothingWaits (is_write_fault result) (O.waits output.old) (O.waits output.new) }
     ensures output { O.lender output.new ≡ O.lender output.old }
 {
-    let state = run_to(alloc, input, output, line, budget.get())?;
+    let state = run_sequentially_to(alloc, input, output, line, budget.get())?;
     Ok(end_status(&state))
 }
 

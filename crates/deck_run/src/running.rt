@@ -3,15 +3,14 @@ ghost use Rattle.std.specs.Prelude.{◌≡◌, MatchResult, IfOk};
 ghost use Rattle.instructions.specs.declared.refusal.Refusal.TheVariants.{OutOfMemory};
 ghost use Rattle.operator_terms.specs.declared.fault.ProgramFault.TheVariants as faults;
 ghost use Rattle.program_order.specs.Processor.{boot_processor};
-ghost use Rattle.sequential_job.specs.Running.{asks_after};
+ghost use Rattle.job_deck.specs.Running.{asks_after};
 ghost use Rattle.sequential_run.specs.Run.{IsRun};
 ghost use Rattle.deck_run.specs.Running.{EndsNoRun};
 
 use instruction_table::Refusal;
-use job_deck::{Deck, booted};
+use job_deck::{Deck, asks_after, booted};
 use machine::{Machine, Snapshot};
 use operator_terms::{Budget, ProgramFault};
-use sequential_job::asks_after;
 use std::alloc::{AllocError, Global};
 use std::sync::Wait;
 use std::thread::Threads;

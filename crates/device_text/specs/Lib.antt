@@ -1,4 +1,4 @@
--- Texts as lines of bytes, and the effect of calls on the bytes of a device.
+-- Texts as lines of bytes, the effect of calls on the bytes of a device, and the position of a fault in a line.
 -- Source: ours.
 pub mod Device
 pub mod Putting
@@ -6,3 +6,4 @@ pub mod Line
 pub mod Text
 pub mod Names
 pub mod Pieces
+pub mod Position

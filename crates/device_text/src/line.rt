@@ -5,15 +5,21 @@ ghost use Rattle.device_text.specs.Line.{IsText, LineTaken, LineText};
 use crate::input::{Input, ReadFailed};
 use arrayvec::ArrayVec;
 
-/// A buffer for a line. The longest line has 200 bytes; one byte more is read of a line that is longer.
-pub type LineBuffer = ArrayVec<u8, 201>;
+/// The largest number of bytes of a line, without its line end; this is the project's choice.
+pub const LONGEST_LINE: usize = 200;
+
+/// One byte more is read of a line that is longer.
+const MOST_READ: usize = LONGEST_LINE + 1;
+
+/// A buffer for a line.
+pub type LineBuffer = ArrayVec<u8, MOST_READ>;
 
 /// The result of `read_line`.
 #[derive(Clone, Copy, Debug, PartialEq, Eq)]
 pub enum LineRead {
-    /// A whole line of at most 200 bytes.
+    /// A whole line of at most `LONGEST_LINE` bytes.
     Whole,
-    /// The first 201 bytes of a longer line.
+    /// The first bytes of a longer line, one more than `LONGEST_LINE`.
     Long,
     /// Nothing, because the input has ended.
     Nothing,
@@ -34,7 +40,7 @@ pub fn read_line<I: Input>(input: &mut I, line: &mut LineBuffer) -> Result<LineR
     ensures same { I.lender input.new ≡ I.lender input.old }
 {
     line.clear();
-    for _ in 0..201u32 {
+    for _ in 0..MOST_READ {
         match input.next_byte()? {
             None => {
                 return Ok(if line.is_empty() {

@@ -10,13 +10,14 @@ use Rattle.deck.specs.Reading.{is_read_failure}
 use Rattle.job_deck.specs.Listing.{Lists}
 use Rattle.job_deck.specs.Replaying.{Replays}
 use Rattle.job_deck.specs.SessionResult.{Performs}
-use Rattle.sequential_job.specs.Running.{RunsSequentially}
+use Rattle.job_deck.specs.Running.{RunsSequentially}
 use Rattle.operator_terms.specs.Status.{status_of, code_of, fault_of, fault_status}
 use Rattle.operator_terms.specs.declared.fault.ProgramFault.{ProgramFault}
 use Rattle.operator_terms.specs.declared.fault.ProgramFault.TheVariants as faults
 use Rattle.operator_terms.specs.declared.status.Status.{Status}
 use Rattle.operator_terms.specs.declared.status.Status.TheVariants.{Stopped, Usage}
 use Rattle.embedding.specs.declared.outcome.Outcome.{Outcome}
+use Rattle.instructions.specs.declared.limits.TheConstants.{MOST_ISSUES}
 
 -- the fault of a command that ends at this refusal. Commands write to memory here, so a failed write means that memory
 -- ran out
@@ -91,7 +92,7 @@ Ran input budget outcome old new =
 -- the outcome of a call with a number that no budget may have
 abbrev pub RefusesBudget : ℕ → Outcome → List ℕ → List ℕ → Type 0
 RefusesBudget budget outcome old new =
-    ¬ ((1 ≤ budget) × (budget ≤ 10000000)) × HandsOver outcome (Ok Usage) [] old new
+    ¬ ((1 ≤ budget) × (budget ≤ MOST_ISSUES)) × HandsOver outcome (Ok Usage) [] old new
 
 -- the same for any number as the budget
 abbrev pub HasRun : List ℕ → ℕ → Outcome → List ℕ → List ℕ → Type 0

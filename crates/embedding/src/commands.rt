@@ -6,9 +6,8 @@ ghost use Rattle.operator_terms.specs.declared.status.Status.TheVariants.{Usage}
 use crate::input_bytes::InputBytes;
 use crate::outcome::{Outcome, hand_over};
 use instruction_table::Refusal;
-use job_deck::{CheckedWriter, LineBuffer, events_to, list_to, replay_to};
+use job_deck::{CheckedWriter, LineBuffer, events_to, list_to, replay_to, run_sequentially_to};
 use operator_terms::{Budget, ProgramFault, Status, end_status};
-use sequential_job::run_to;
 use std::alloc::Global;
 
 /// Copies to the caller the text that a command printed before this refusal. Commands write to memory here, so a failed
@@ -64,7 +63,7 @@ fn run_within(
     let mut bytes = InputBytes::new(input);
     let mut text = Vec::new(alloc);
     let mut writer = CheckedWriter::new(&mut text);
-    let result = run_to(
+    let result = run_sequentially_to(
         alloc,
         &mut bytes,
         &mut writer,

@@ -3,10 +3,10 @@
 //! and drive it event by event. This crate is a static library: include/cdc6600.h declares its functions, and
 //! docs/use/emulators.md explains how to call them.
 //!
-//! Callers rely on the contracts here, which say the same as those of `job_deck` and `sequential_job` for any reader
-//! and writer. A call copies as much of the text as fits, and that is the text that the command prints. No contract
-//! binds a caller in C. The functions of `commands` do the work. Its tests are `tools/check embedding`, and those of
-//! the commands, in `crates/text_tests/src/session_tests.rt`. Begin with `cdc6600_list`.
+//! Callers rely on the contracts here, which say the same as those of `job_deck` for any reader and writer. A call
+//! copies as much of the text as fits, and that is the text that the command prints. No contract binds a caller in C.
+//! The functions of `commands` do the work. Its tests are `tools/check embedding`, and those of the commands, in
+//! `crates/text_tests/src/session_tests.rt`. Begin with `cdc6600_list`.
 #![tactic(auto)]
 
 ghost use Rattle.std.specs.Prelude.{◌≡◌, None, false, length, not};

@@ -12,6 +12,7 @@ use crate::booted::Booted;
 use crate::outcome::{Outcome, hand_over};
 use arrayvec::ArrayVec;
 use contents_text::put_event;
+use device_text::LONGEST_LINE;
 use instruction_table::DeckFault;
 use job_deck::{CheckedWriter, ScheduleLine, WriteFailed, parse_schedule_line, put_answer};
 use machine::{Answer, Event, Machine};
@@ -19,9 +20,6 @@ use operator_terms::{ProgramFault, Status};
 
 /// A buffer size that is more than the bytes of an event's line and its answer's line together.
 const LINES: usize = 128;
-
-/// The largest number of bytes in a line of a schedule.
-const LONGEST_LINE: usize = 200;
 
 /// The end of a call that writes to memory. A failed write there means that memory ran out.
 pub fn written_end(written: Result<(), WriteFailed>) -> Result<Status, ProgramFault>

@@ -6,13 +6,14 @@
 //!
 //! Callers rely on `operand_registers`, `results` and `unit_kind`: they return exactly what the instruction's row of
 //! `uses` in `specs/Operands` says. `shape` says which instructions refer to memory. `refusal` lists the reasons for a
-//! halt and every refusal. `PerUnit` holds one value for each unit in use. The tests are in
-//! `crates/core_tests/src/instructions_tests.rt` and `crates/core_tests/src/per_unit_tests.rt`. Begin with `Instr` in
-//! `instr`, then `registers`.
+//! halt and every refusal, and `limits` how much a machine may do. `PerUnit` holds one value for each unit in use. The
+//! tests are in `crates/core_tests/src/instructions_tests.rt` and `crates/core_tests/src/per_unit_tests.rt`. Begin with
+//! `Instr` in `instr`, then `registers`.
 #![tactic(auto)]
 
 mod below;
 mod instr;
+mod limits;
 mod operations;
 mod per_unit;
 mod refusal;
@@ -24,6 +25,7 @@ pub use instr::{
     Addends, Addition, BTest, Base, Direction, Instr, Logic, Op, Pair, Reg, Target, Unit, UnitKind,
     XTest,
 };
+pub use limits::{FIRST_CHANNEL, MOST_ACCESSES, MOST_ISSUES, MOST_REQUESTS, PAST_CHANNELS};
 pub use per_unit::PerUnit;
 pub use refusal::{DeckFault, Halt, Refusal};
 pub use registers::{OperandRegisters, operand_registers, results, sources, unit_kind};

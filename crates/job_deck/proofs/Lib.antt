@@ -1,2 +1,6 @@
 pub mod printing
 pub mod sessions
+pub mod Unread
+pub mod Fitting
+pub mod Unfit
+pub mod Judged

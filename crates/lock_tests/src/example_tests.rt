@@ -1,6 +1,6 @@
 //! Two threads that drive one machine and meet, as in docs/work/threads.md.
 ghost use Rattle.std.specs.Prelude.{◌≡◌, IfOk};
-ghost use Rattle.progress_word.specs.CallerKnowledge.{AreApart, NumbersApart, StartsWith};
+ghost use Rattle.machine_lock.specs.CallerKnowledge.{AreApart, NumbersApart, StartsWith};
 
 use crate::fixtures::{booted, leave_all};
 use instruction_table::Refusal;

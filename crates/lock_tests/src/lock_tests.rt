@@ -1,7 +1,7 @@
 //! A machine under its lock: seats and tokens, threads that drive it, and its callers' knowledge of the log.
 
 ghost use Rattle.std.specs.Prelude.{◌≡◌, IfOk};
-ghost use Rattle.progress_word.specs.CallerKnowledge.{StartsWith};
+ghost use Rattle.machine_lock.specs.CallerKnowledge.{StartsWith};
 
 use crate::fixtures::{
     FIRST, Issued, SECOND, booted, is_empty, leave, leave_all, note, of_increments, word, x,

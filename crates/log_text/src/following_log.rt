@@ -14,9 +14,14 @@ use instruction_table::Refusal;
 use sequential::Log;
 use std::alloc::Global;
 
-/// A buffer for an entry. The longest entry has 28 bytes, as `W777777=77777777777777777777`; one byte more is read of a
-/// field that is longer.
-type EntryBuffer = ArrayVec<u8, 29>;
+/// The number of bytes of the longest entry, as `W777777=77777777777777777777`.
+const LONGEST_ENTRY: usize = 28;
+
+/// One byte more is read of a field that is longer.
+const MOST_READ: usize = LONGEST_ENTRY + 1;
+
+/// A buffer for an entry.
+type EntryBuffer = ArrayVec<u8, MOST_READ>;
 
 /// What ends a field of a line.
 #[derive(Clone, Copy, Debug, PartialEq, Eq)]
@@ -25,7 +30,7 @@ pub enum FieldEnd {
     Space,
     /// The end of the line or of the input.
     Line,
-    /// Nothing yet: these are the first 29 bytes of a longer field.
+    /// Nothing yet: these are the first bytes of a longer field, one more than `LONGEST_ENTRY`.
     Long,
 }
 
@@ -44,7 +49,7 @@ fn read_field<I: Input>(input: &mut I, field: &mut EntryBuffer) -> Result<FieldE
     ensures same { I.lender input.new ≡ I.lender input.old }
 {
     field.clear();
-    for _ in 0..29u32 {
+    for _ in 0..MOST_READ {
         match input.next_byte()? {
             None | Some(b'\n') => return Ok(FieldEnd::Line),
             Some(b' ') => return Ok(FieldEnd::Space),

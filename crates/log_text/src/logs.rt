@@ -9,7 +9,7 @@ ghost use Rattle.log_text.specs.LogText.{read_in, write_in, written_in, spent, s
 
 use device_text::{first_part, number};
 use instruction_table::Refusal;
-use machine::MOST_ISSUES;
+use instructions::{MOST_ACCESSES, MOST_ISSUES, MOST_REQUESTS};
 use sequential::{Entry, Log};
 use std::alloc::Global;
 use word60::Word60;
@@ -28,15 +28,15 @@ pub struct Allowance {
 }
 
 impl Allowance {
-    /// The allowance at the beginning: 10,000,000 instructions, 1,000,000 exchanges and 1,000,000 peripheral accesses.
+    /// The allowance at the beginning: the most that a machine may do.
     pub fn whole() -> Allowance
         ensures { result ≡ whole_allowance }
     {
         Allowance {
             after_count: false,
             instructions: MOST_ISSUES,
-            exchanges: 1_000_000,
-            accesses: 1_000_000,
+            exchanges: MOST_REQUESTS,
+            accesses: MOST_ACCESSES,
         }
     }
 
@@ -217,7 +217,7 @@ fn add_entry(log: &mut Log, entry: &Entry) -> Result<(), Refusal>
 /// # Errors
 /// `OutOfMemory` if memory runs out.
 pub fn add_field(log: &mut Log, left: Allowance, field: &[u8]) -> Result<Option<Allowance>, Refusal>
-    requires { issued log.old.steps + left.instructions ≤ 10000000 }
+    requires { issued log.old.steps + left.instructions ≤ MOST_ISSUES }
     ensures { MatchResult result (λ more. AddsField more left field.now log.old.steps log.new.steps)
         (λ refusal. refusal ≡ OutOfMemory) }
 {

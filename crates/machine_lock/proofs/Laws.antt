@@ -29,13 +29,13 @@ use Rattle.program_order.proofs.theorem.Theorem.{made_allowed}
 use Rattle.atomic_table.specs.Seated.{TableId}
 use Rattle.atomic_table.specs.Table.{Me}
 use Rattle.atomic_table.specs.declared.shared.Seat.{Seat}
-use Rattle.progress_word.specs.CallerKnowledge.{Known, known, StartsWith, IsMade, Learnt, IsNoteOf}
-use Rattle.progress_word.specs.CallerKnowledge.{IsWhyOf}
-use Rattle.progress_word.specs.CallerKnowledge.{Booted, booted_by, booted_with, HasReplay, IsWordOf}
+use Rattle.machine_lock.specs.CallerKnowledge.{Known, known, StartsWith, IsMade, Learnt, IsNoteOf}
+use Rattle.machine_lock.specs.CallerKnowledge.{IsWhyOf}
+use Rattle.machine_lock.specs.CallerKnowledge.{Booted, booted_by, booted_with, HasReplay, IsWordOf}
 use Rattle.machine.specs.OneEvent.{IsEvent}
 use Rattle.machine_lock.specs.Held.{IsCurrent, IsHeldEvent, Kept, with_processor}
 use Rattle.machine_lock.specs.inner.LockInvariant.{IsLocked, IsLogged, last_step}
-use Rattle.progress_word.specs.inner.Rules.{History, Knowing, history, past, keeper, caller, Continues}
+use Rattle.machine_lock.specs.inner.Rules.{History, Knowing, history, past, keeper, caller, Continues}
 
 -- ---- what an answer has ----
 

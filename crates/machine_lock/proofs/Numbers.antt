@@ -5,7 +5,7 @@ use native.Mathlib.Decide.{dec_le}
 use Rattle.sequential.specs.declared.state.State.{State}
 use Rattle.sequential.specs.Replay.{LogStep, boot, do_log_step}
 use Rattle.sequential.specs.UnitIssues.{taken, then_taken}
-use Rattle.progress_word.specs.CallerKnowledge.{Known, is_in, AreApart, number_at, IsTaken, NumbersApart}
+use Rattle.machine_lock.specs.CallerKnowledge.{Known, is_in, AreApart, number_at, IsTaken, NumbersApart}
 
 then_rises : (o : Option State) (f g : State → ℕ) → ((s : State) → f s ≤ g s) → then_taken o f ≤ then_taken o g
 unfolding then_taken

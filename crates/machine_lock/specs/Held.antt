@@ -8,7 +8,7 @@ use Rattle.program_order.specs.declared.event.Event.TheVariants.{Ask}
 use Rattle.program_order.specs.Processor.{Processor}
 use Rattle.program_order.specs.Run.{IsAnswer, settled}
 use Rattle.machine.specs.OneEvent.{IsEvent}
-use Rattle.progress_word.specs.CallerKnowledge.{Known, booted_by}
+use Rattle.machine_lock.specs.CallerKnowledge.{Known, booted_by}
 
 -- the machine under the lock, and whether its users were told to end
 pub record Kept : Type 0 where

@@ -5,15 +5,27 @@
 //! memory. That log begins with the steps that the caller had seen. Every other call that takes a `Seen` updates it
 //! with what the caller has then seen of the log.
 //!
-//! `locked_machine` defines the machine while its lock is held, and the invariant of the lock. `Seen` and `Naming` come
-//! from `progress_word`. docs/work/threads.md has an example. Its tests are in `crates/lock_tests/src/lock_tests.rt`
-//! and `crates/lock_tests/src/guard_tests.rt`. Begin with `Shared` in `shared`.
+//! `locked_machine` defines the machine while its lock is held, and the invariant of the lock.
+//!
+//! `word` has the progress word, which counts the steps of the log. Each pass to the word knows a beginning of one log.
+//! The machine's pass knows the whole log: the holder of the lock records each step there (`Word::record`). A caller's
+//! pass knows the steps that the caller has seen, and the positions of the caller's own steps; a caller keeps it in a
+//! `Seen`. The word holds the log's length. So a caller that loads the word again (`Word::compare`) learns a log that
+//! begins with what it knew, without the lock. Two callers that meet have no step in common. `rule` has the steps that
+//! the word's rule allows.
+//!
+//! docs/work/threads.md has an example. The tests are in `crates/lock_tests/src/lock_tests.rt` and
+//! `crates/lock_tests/src/guard_tests.rt`. Begin with `Shared` in `shared`, then `Word` in `word`.
 #![tactic(auto)]
 
 mod locked_machine;
+mod rule;
+mod seen;
 mod shared;
+mod word;
 
 pub use locked_machine::{LockedMachine, MachineGuard};
-pub use progress_word::{Naming, Seen};
+pub use rule::Naming;
+pub use seen::Seen;
 pub use shared::{Ground, Shared};
 pub use signals::{Signal, Signals, Wakeups};

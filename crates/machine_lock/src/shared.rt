@@ -8,14 +8,16 @@ ghost use Rattle.program_order.specs.Refusals.{is_stranger, is_nothing, is_issue
 ghost use Rattle.program_order.specs.Refusals.{is_store_refusal, is_accept_refusal, is_return_refusal, is_ask_refusal};
 ghost use Rattle.program_order.specs.Refusals.{is_exchange_refusal, is_access_refusal};
 ghost use Rattle.machine.specs.Tokens.{new_seats, one_more};
-ghost use Rattle.progress_word.specs.CallerKnowledge.{booted_by, known, IsMade, Learnt, HasReplay, IsNoteOf, IsWhyOf};
-ghost use Rattle.progress_word.specs.CallerKnowledge.{IsWordOf};
-ghost use Rattle.progress_word.specs.CallerKnowledge.{AreApart, NumbersApart};
+ghost use Rattle.machine_lock.specs.CallerKnowledge.{booted_by, known, IsMade, Learnt, HasReplay, IsNoteOf, IsWhyOf};
+ghost use Rattle.machine_lock.specs.CallerKnowledge.{IsWordOf};
+ghost use Rattle.machine_lock.specs.CallerKnowledge.{AreApart, NumbersApart};
 
 use crate::locked_machine::{LockedMachine, MachineGuard};
+use crate::rule::{Naming, Pass, ProgressTable};
+use crate::seen::Seen;
+use crate::word::Word;
 use instruction_table::{PerUnit, Refusal};
 use machine::{Computed, Finished, Loaded, Machine, Note, Reserved, Seat, Snapshot};
-use progress_word::{Naming, Pass, ProgressTable, Seen, Word};
 use signals::Signals;
 use std::alloc::Global;
 use std::hint::spin_loop;
@@ -38,7 +40,7 @@ pub struct Ground {
 impl Model for Ground {
     ghost use Rattle.std.specs.Prelude.{◌≡◌, []};
     ghost use Rattle.atomic_table.specs.Seated.{TableId};
-    ghost use Rattle.progress_word.specs.inner.Rules.{fresh};
+    ghost use Rattle.machine_lock.specs.inner.Rules.{fresh};
 
     ghost Value = { TableId };
 

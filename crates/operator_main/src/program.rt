@@ -15,9 +15,9 @@ use clap::Error;
 use clap::error::ErrorKind;
 use command_line::{Request, read_arguments};
 use deck_run::{replay_following_log, replay_log, run_deck, run_deck_sequentially};
+use device_text::find_fault;
 use job_deck::{CheckedBufReader, CheckedWriter, Input, LineBuffer, Output, events_to, list_to};
 use operator_terms::{ProgramFault, Status};
-use refused_line::find;
 use std::alloc::Global;
 use std::io;
 use std::io::{BufReader, ErrorKind as IoErrorKind, Read, Write};
@@ -58,7 +58,7 @@ fn fault_line_with_position(fault: &ProgramFault, line: &[u8]) -> ArrayVec<u8, W
     let mut text = ArrayVec::new();
     let _ = writeln!(text, "cdc6600: {fault}");
     if let ProgramFault::Deck { fault, .. } = fault
-        && let Some(position) = find(*fault, line)
+        && let Some(position) = find_fault(*fault, line)
     {
         let _ = writeln!(text, "cdc6600: {position}");
     }

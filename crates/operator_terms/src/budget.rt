@@ -1,11 +1,9 @@
 ghost use Rattle.std.specs.Prelude.{◌≡◌, ◌≤◌, SomeIff};
 
+use instructions::MOST_ISSUES;
 use std::marker::Model;
 
-/// The largest budget.
-pub const LARGEST_BUDGET: u64 = 10_000_000;
-
-/// The largest number of instructions that a machine may issue: 1 to 10,000,000.
+/// The largest number of instructions that a machine may issue: 1 to `MOST_ISSUES`.
 #[derive(Clone, Copy, Debug, Drop, PartialEq, Eq)]
 pub struct Budget {
     instructions: u64,
@@ -13,22 +11,23 @@ pub struct Budget {
 
 impl Model for Budget {
     ghost use Rattle.std.specs.Prelude.{ℕ, ◌≤◌};
+    ghost use Rattle.instructions.specs.declared.limits.TheConstants.{MOST_ISSUES};
 
     ghost Value = { ℕ };
 
     ghost view = { λ b. b.instructions };
 
-    ghost invariant = { λ b. b.instructions ≤ 10000000 };
+    ghost invariant = { λ b. b.instructions ≤ MOST_ISSUES };
 
     ghost inverse = { λ n. record { instructions = n } };
 }
 
 impl Budget {
-    /// The budget of this many instructions, or `None` if the number is 0 or above 10,000,000.
+    /// The budget of this many instructions, or `None` if the number is 0 or above `MOST_ISSUES`.
     pub fn new(instructions: u64) -> Option<Budget>
-        ensures { SomeIff result ((1 ≤ instructions) × (instructions ≤ 10000000)) instructions }
+        ensures { SomeIff result ((1 ≤ instructions) × (instructions ≤ MOST_ISSUES)) instructions }
     {
-        if instructions == 0 || instructions > LARGEST_BUDGET {
+        if instructions == 0 || instructions > MOST_ISSUES {
             return None;
         }
         Some(Budget { instructions })
@@ -37,7 +36,7 @@ impl Budget {
     /// The number of instructions.
     pub fn get(self) -> u64
         ensures value { result ≡ self }
-        ensures range { result ≤ 10000000 }
+        ensures range { result ≤ MOST_ISSUES }
     {
         self.instructions
     }

@@ -11,6 +11,6 @@ mod budget;
 mod fault;
 mod status;
 
-pub use budget::{Budget, LARGEST_BUDGET};
+pub use budget::Budget;
 pub use fault::ProgramFault;
 pub use status::{Status, end_status};

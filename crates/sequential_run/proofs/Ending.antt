@@ -3,7 +3,7 @@ use Rattle.std.proofs.Common.{◌≡◌, ◌≤◌, ◌+◌, ℕ, zero, suc, Boo
 use Rattle.std.proofs.Common.{◌&&◌, ◌||◌, Option, Some, None, is_some, not}
 use Rattle.std.proofs.Common.{length, refl, arith}
 use Rattle.std.specs.Prelude.{is_none, nat_le, nat_lt}
-use Rattle.exchange_requests.specs.Fulfilled.{IsFulfilled}
+use Rattle.sequential_run.specs.Fulfilled.{IsFulfilled}
 use Rattle.program_order.proofs.theorem.Headline.{replay_faulted}
 use Rattle.relocation.specs.Relocation.{package_fits}
 use Rattle.sequential.specs.declared.state.State.{State}

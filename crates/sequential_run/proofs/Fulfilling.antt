@@ -4,9 +4,9 @@ use Rattle.std.proofs.Common.{List, [], ◌∷◌, ◌++◌, Option, Some, None,
 use Rattle.std.proofs.Common.{append-nil, arith, leb, leb-true, le-leb, lt-ltb, eq-eqb, true≢false}
 use Rattle.std.proofs.lemmas.Bool.{and_from, or_left, or_right}
 use Rattle.std.specs.Prelude.{drop, nat_eq, nat_le, nat_lt}
-use Rattle.exchange_requests.specs.Fulfilled.{IsFulfilled, are_done, exchanges_after, fulfils, is_in_time, is_next_ask}
-use Rattle.exchange_requests.specs.Fulfilled.{is_next_free}
-use Rattle.exchange_requests.proofs.Counting.{exchanges_append}
+use Rattle.sequential_run.specs.Fulfilled.{IsFulfilled, are_done, exchanges_after, fulfils, is_in_time, is_next_ask}
+use Rattle.sequential_run.specs.Fulfilled.{is_next_free}
+use Rattle.sequential_run.proofs.Counting.{exchanges_append}
 use Rattle.relocation.specs.Relocation.{package_fits}
 use Rattle.sequential.specs.declared.state.State.{State}
 use Rattle.sequential.specs.Log.{issued}

@@ -2,7 +2,7 @@
 use Rattle.std.proofs.Common.{◌≡◌, ◌<◌, ◌≤◌, ◌+◌, ◌-◌, ℕ, suc, Bool, true, false, ◌&&◌, cond, List, [], ◌∷◌}
 use Rattle.std.proofs.Common.{◌++◌, Some, None, length, is_some, refl, sym, ap, ◌∙◌, arith}
 use Rattle.std.specs.Prelude.{drop, replicate, nat_lt}
-use Rattle.exchange_requests.specs.Requests.{IsDue, ToMake}
+use Rattle.sequential_run.specs.Requests.{IsDue, ToMake}
 use Rattle.instructions.specs.declared.refusal.Refusal.{Refusal}
 use Rattle.instructions.specs.declared.refusal.Refusal.TheVariants.{PackageRange}
 use Rattle.relocation.specs.Relocation.{package_fits}

@@ -7,3 +7,7 @@ pub mod MidWord
 pub mod Fulfilling
 pub mod OneResult
 pub mod Making
+pub mod First
+pub mod Choosing
+pub mod Counting
+pub mod Due

@@ -7,7 +7,7 @@ use Rattle.std.specs.Ordering.{nat_cmp, is_lt}
 use Rattle.std.proofs.Common.{Less, Equal, Greater}
 use Rattle.std.specs.List.Sorted.{ties}
 use Rattle.std.proofs.lemmas.List.Sorted.{IsNonDecreasingBy-drop}
-use Rattle.exchange_requests.specs.Requests.{IsInOrder, KeepsTies}
+use Rattle.sequential_run.specs.Requests.{IsInOrder, KeepsTies}
 
 -- ---- requests after equally many instructions ----
 

@@ -3,7 +3,7 @@ use Rattle.std.proofs.Common.{◌≡◌, ◌<◌, ◌≤◌, ◌+◌, ℕ, zero,
 use Rattle.std.proofs.Common.{◌++◌, Option, Some, None, is_some, refl, sym, ap, subst, ◌∙◌, append_assoc}
 use Rattle.std.proofs.Common.{append-nil, add-one, arith, lt-ltb, le-leb}
 use Rattle.std.specs.Prelude.{replicate, nat_lt}
-use Rattle.exchange_requests.specs.Requests.{IsDue}
+use Rattle.sequential_run.specs.Requests.{IsDue}
 use Rattle.sequential.specs.declared.state.State.{State}
 use Rattle.sequential.specs.Log.{issued}
 use Rattle.sequential.specs.Replay.{Issued}

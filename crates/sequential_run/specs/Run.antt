@@ -1,8 +1,8 @@
 -- The promise of every run, and the log and the state that a run by one instruction at a time reaches.
 -- Source: ours.
 use Rattle.std.specs.Prelude.{◌≡◌, ◌≤◌, ◌||◌, ℕ, Bool, true, false, List, ◌∷◌, length, Some, is_some, nat_le}
-use Rattle.exchange_requests.specs.Requests.{AreOrdered}
-use Rattle.exchange_requests.specs.Fulfilled.{IsFulfilled}
+use Rattle.sequential_run.specs.Requests.{AreOrdered}
+use Rattle.sequential_run.specs.Fulfilled.{IsFulfilled}
 use Rattle.instructions.specs.declared.refusal.Refusal.{Refusal}
 use Rattle.instructions.specs.declared.refusal.Refusal.TheVariants.{OutOfMemory, PackageRange}
 use Rattle.program_order.specs.Headline.{IsFaultedRun}

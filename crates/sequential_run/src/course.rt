@@ -4,11 +4,11 @@ ghost use Rattle.std.specs.Prelude.{MatchResult};
 ghost use Rattle.instructions.specs.declared.refusal.Refusal.TheVariants.{OutOfMemory};
 ghost use Rattle.sequential.specs.Log.{issued};
 ghost use Rattle.sequential_run.specs.Turns.{is_going, is_in_mid_word};
-ghost use Rattle.exchange_requests.specs.Requests.{IsDue};
+ghost use Rattle.sequential_run.specs.Requests.{IsDue};
 ghost use Rattle.sequential_run.specs.inner.Course.{IsKept, CanIssue, IsWhyRefused, IsIssued, Goes, Went, moment_of};
 
+use crate::requests::Requests;
 use crate::stepping::{is_going, is_in_mid_word, issue_many};
-use exchange_requests::Requests;
 use instruction_table::Refusal;
 use sequential::{Log, State};
 use std::collections::VecDeque;

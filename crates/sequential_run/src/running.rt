@@ -4,7 +4,7 @@ ghost use Rattle.sequential_run.specs.inner.Course.{IsBegun};
 ghost use Rattle.sequential_run.specs.Run.{IsRun, IsSequentialRun, IsWhyNoRun};
 
 use crate::course::Course;
-use exchange_requests::{Ask, Requests};
+use crate::requests::{Ask, Requests};
 use instruction_table::Refusal;
 use relocation::Storage;
 use sequential::{Log, State};

@@ -1,7 +1,7 @@
 //! Tests of logs that fulfil the requests of their run, and of logs that don't.
 
-use exchange_requests::{are_fulfilled, in_order};
 use job_deck::read_log;
+use sequential_run::{are_fulfilled, in_order};
 use std::alloc::AllocError;
 use std::process::Abort;
 use std::test::Fail;

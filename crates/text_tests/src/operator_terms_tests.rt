@@ -1,7 +1,8 @@
 //! Tests of exit statuses, the texts of faults, and budgets.
 
 use instruction_table::{DeckFault, Digit, Halt, Op};
-use operator_terms::{Budget, LARGEST_BUDGET, ProgramFault, end_status};
+use instructions::MOST_ISSUES;
+use operator_terms::{Budget, ProgramFault, end_status};
 use registers::RegisterFile;
 use relocation::{Area, Storage};
 use sequential::{ProgramPosition, State};
@@ -110,8 +111,8 @@ fn budgets(rt: HostRuntime) -> Result<(), Fail> {
     for (instructions, is_one) in [
         (0, false),
         (1, true),
-        (LARGEST_BUDGET, true),
-        (LARGEST_BUDGET + 1, false),
+        (MOST_ISSUES, true),
+        (MOST_ISSUES + 1, false),
     ] {
         let wanted = if is_one { Some(instructions) } else { None };
         let budget = Budget::new(instructions).map(|budget| budget.get());

@@ -1,7 +1,7 @@
 //! Tests of the positions of faults, and of their printed form.
 
+use device_text::find_fault;
 use instruction_table::DeckFault;
-use refused_line::find;
 use std::test::Fail;
 
 /// A fault, a line that has the fault, and the printed position.
@@ -82,7 +82,7 @@ const ROWS: [Row<'static>; 33] = [
 #[test]
 fn faults_and_positions(rt: HostRuntime) -> Result<(), Fail> {
     for (fault, line, printed) in &ROWS {
-        let position = find(*fault, line);
+        let position = find_fault(*fault, line);
         let text = match position {
             Some(position) => format!(in rt.alloc(); "{position}")?,
             None => String::new(rt.alloc()),
@@ -111,12 +111,12 @@ fn texts_as_they_are_printed(rt: HostRuntime) -> Result<(), Fail> {
         ),
     ];
     for (line, printed) in rows {
-        let Some(position) = find(DeckFault::Instruction, line) else {
+        let Some(position) = find_fault(DeckFault::Instruction, line) else {
             return Err(Fail::from("no position"));
         };
         assert_eq!(rt; format!(in rt.alloc(); "{position}")?.as_str(), printed);
     }
-    assert!(rt; find(DeckFault::NoEnd, b"core 256").is_none());
-    assert!(rt; find(DeckFault::Lines, b"core 256").is_none());
+    assert!(rt; find_fault(DeckFault::NoEnd, b"core 256").is_none());
+    assert!(rt; find_fault(DeckFault::Lines, b"core 256").is_none());
     Ok(())
 }

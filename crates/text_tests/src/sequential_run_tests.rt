@@ -5,11 +5,10 @@ ghost use Rattle.std.specs.Prelude.{◌≡◌, ◌+◌, ◌<◌, ◌^◌, length
 ghost use Rattle.sequential_run.specs.Made.{IsMadeByEvents};
 
 use crate::fixtures::{FOUR_WORDS, Failing, joined};
-use exchange_requests::Ask;
 use instruction_table::{Halt, Refusal};
 use relocation::Storage;
 use sequential::Entry;
-use sequential_run::{CompletedRun, a_run_by_one_is_made_by_events, a_run_has_one_result};
+use sequential_run::{Ask, CompletedRun, a_run_by_one_is_made_by_events, a_run_has_one_result};
 use std::alloc::{AllocError, Global};
 use std::process::Abort;
 use std::test::Fail;
@@ -59,7 +58,7 @@ fn expect_log(
     let deck = joined(rt.alloc(), [FOUR_PACKAGES, lines].as_slice())?;
     let mut input = deck.as_slice();
     let mut output = Vec::new(rt.alloc());
-    let ended = sequential_job::run(rt.alloc(), &mut input, &mut output, budget);
+    let ended = job_deck::run_sequentially(rt.alloc(), &mut input, &mut output, budget);
     assert!(rt;
         ended.is_ok() && output.as_slice().ends_with(log.as_bytes()),
         "{lines}"
@@ -84,7 +83,7 @@ fn run_of_failing_reader(rt: HostRuntime) -> Result<(), Fail> {
         fails_from: 2,
     };
     let mut output = Vec::new(rt.alloc());
-    let ended = sequential_job::run(rt.alloc(), &mut input, &mut output, 9);
+    let ended = job_deck::run_sequentially(rt.alloc(), &mut input, &mut output, 9);
     assert!(rt; matches!(ended, Err(Refusal::Read)) && output.is_empty());
     Ok(())
 }

@@ -1,7 +1,7 @@
 //! Two peripheral processors, each in a thread of its own, write and read one word while two units are at work.
 
 ghost use Rattle.std.specs.Prelude.{◌≡◌, IfOk};
-ghost use Rattle.progress_word.specs.CallerKnowledge.{IsWordOf};
+ghost use Rattle.machine_lock.specs.CallerKnowledge.{IsWordOf};
 
 use crate::thread_tests::{BOTH, Hold, NOTES, REGISTERS, Started, of_boolean_and_shift, start};
 use instruction_table::{Refusal, Unit};

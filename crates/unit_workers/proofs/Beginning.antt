@@ -23,7 +23,7 @@ use Rattle.program_order.specs.Processor.{Processor}
 use Rattle.program_order.specs.Run.{IsAnswer, answer_of, settled}
 use Rattle.program_order.specs.SnapshotView.{Snapped}
 use Rattle.program_order.proofs.keeping.Naming.{answered_err}
-use Rattle.progress_word.specs.CallerKnowledge.{StartsWith, Booted, booted_by, booted_with, known}
+use Rattle.machine_lock.specs.CallerKnowledge.{StartsWith, Booted, booted_by, booted_with, known}
 use Rattle.unit_workers.specs.Beginning.{IsAtRest, Begins}
 use Rattle.unit_workers.specs.Ending.{is_at_end}
 use Rattle.unit_workers.specs.Onward.{EndsFrom}

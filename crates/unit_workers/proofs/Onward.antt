@@ -5,7 +5,7 @@ use Rattle.std.proofs.lemmas.List.{append-nil}
 use Rattle.program_order.specs.SnapshotView.{Snapped}
 use Rattle.sequential.specs.Log.{issued}
 use Rattle.sequential.specs.Replay.{LogStep}
-use Rattle.progress_word.specs.CallerKnowledge.{Booted, Known, StartsWith, IsMade, Learnt}
+use Rattle.machine_lock.specs.CallerKnowledge.{Booted, Known, StartsWith, IsMade, Learnt}
 use Rattle.unit_workers.specs.Ending.{is_at_end}
 use Rattle.unit_workers.specs.Onward.{GoesOnFrom, EndsFrom}
 

@@ -2,7 +2,7 @@
 use Rattle.std.specs.Prelude.{◌≡◌, ℕ, Bool, true, [], ◌∷◌, ◌++◌, None, is_some}
 use Rattle.sequential.specs.Replay.{Exchanged}
 use Rattle.program_order.specs.Processor.{Processor}
-use Rattle.progress_word.specs.CallerKnowledge.{StartsWith, booted_by}
+use Rattle.machine_lock.specs.CallerKnowledge.{StartsWith, booted_by}
 
 -- the machine is as it is after its boot: nothing is pending, no request waits, and it is halted
 pub record IsAtRest (w : Processor) : Type 0 where

@@ -2,7 +2,7 @@
 use Rattle.std.specs.Prelude.{◌≡◌, ◌≤◌, true}
 use Rattle.sequential.specs.Log.{issued}
 use Rattle.program_order.specs.SnapshotView.{Snapped}
-use Rattle.progress_word.specs.CallerKnowledge.{Known, StartsWith}
+use Rattle.machine_lock.specs.CallerKnowledge.{Known, StartsWith}
 use Rattle.unit_workers.specs.Ending.{is_at_end}
 
 -- the caller's knowledge is of the same machine as before, and its log begins with what was seen before

@@ -1,10 +1,10 @@
 //! A whole run by threads.
 ghost use Rattle.std.specs.Prelude.{◌≡◌, ◌≤◌, [], ◌∷◌, ◌++◌, true, IfOk, IfSome, OnOk, Ok, Some, map};
-ghost use Rattle.exchange_requests.specs.Fulfilled.{IsFulfilled};
+ghost use Rattle.sequential_run.specs.Fulfilled.{IsFulfilled};
 ghost use Rattle.sequential_run.specs.Turns.{is_in_mid_word};
 ghost use Rattle.sequential.specs.Log.{issued};
 ghost use Rattle.sequential.specs.Replay.{Exchanged};
-ghost use Rattle.progress_word.specs.CallerKnowledge.{booted_by, known, StartsWith};
+ghost use Rattle.machine_lock.specs.CallerKnowledge.{booted_by, known, StartsWith};
 ghost use Rattle.unit_workers.specs.Beginning.{IsAtRest, Begins};
 ghost use Rattle.unit_workers.specs.Ending.{is_at_end};
 ghost use Rattle.unit_workers.specs.Onward.{EndsFrom};
@@ -14,11 +14,10 @@ ghost use Rattle.unit_workers.specs.Settled.{in_use, IsSettled, AreSettled};
 use crate::asking::{FreeRequests, ask_all};
 use crate::issuing::{PendingRequests, begin, conduct};
 use crate::worker_lanes::{LaneEnds, Settled, WorkerLanes, open_lanes};
-use exchange_requests::{Ask, Requests, are_fulfilled, in_order};
 use instruction_table::{PerUnit, Refusal};
 use machine::{Machine, Seat};
 use machine_lock::{Ground, Naming, Seen, Shared};
-use sequential_run::is_in_mid_word;
+use sequential_run::{Ask, Requests, are_fulfilled, in_order, is_in_mid_word};
 use std::alloc::Global;
 use std::marker::Brand;
 use std::snapshot::Snapshot as GhostCopy;

@@ -1,7 +1,9 @@
 //! The storage worker. It does the work of the 6600's stunt box and storage (Thornton, stunt box): it accepts
 //! references, frees banks and returns loads.
 
+use hopper::PLACES;
 use instruction_table::Refusal;
+use instructions::{FIRST_CHANNEL, PAST_CHANNELS};
 use machine_lock::{LockedMachine, Naming, Shared};
 use std::sync::Wait;
 
@@ -40,7 +42,7 @@ impl Swept {
 /// Accepts the references in the hopper that may be accepted. If the bank of a reference is busy, the bank is freed
 /// first.
 fn accept_all<K: Naming>(machine: &mut LockedMachine<K>, swept: &mut Swept) {
-    for place in 0..4u8 {
+    for place in 0..PLACES as u8 {
         let mut answer = machine.accept(place);
         if let Err(Refusal::BankBusy(bank)) = answer {
             let _ = machine.bank_free(bank);
@@ -50,9 +52,9 @@ fn accept_all<K: Naming>(machine: &mut LockedMachine<K>, swept: &mut Swept) {
     }
 }
 
-/// Returns the loads that may be returned, of channels 1 to 5.
+/// Returns the loads that may be returned.
 fn return_all<K: Naming>(machine: &mut LockedMachine<K>, swept: &mut Swept) {
-    for channel in 1..6u8 {
+    for channel in FIRST_CHANNEL..PAST_CHANNELS {
         swept.note(machine.return_load(channel));
     }
 }

@@ -11,7 +11,7 @@
 
 A function is one that the sources spell out: closures, derived implementations and what drops a value don't count. Nor
 do these, which carry nothing of the instruction: the conversions between numbers (`get`, `from_bits`, ..), the wake-ups
-between threads (crate `signals`) and the order of requests for exchanges (`exchange_requests::requests`). Each function
+between threads (crate `signals`) and the order of requests for exchanges (`sequential_run::requests`). Each function
 counts once, however often it is entered.
 
 It also counts, in the sources, the errors that are converted by hand, and the types and constants whose name stands in
@@ -47,7 +47,7 @@ WORD_LINE = 4
 # What isn't spelled out (`thiserror` derives the texts of two of the three types of a fault), or carries nothing of the
 # instruction.
 LEFT_OUT = re.compile(
-    r"Destruct|::fn::|\+Fn|(?:PartialEq|Default|Clone|Debug|From)::|\+start|^signals::|^exchange_requests::requests::"
+    r"Destruct|::fn::|\+Fn|(?:PartialEq|Default|Clone|Debug|From)::|\+start|^signals::|^sequential_run::requests::"
     r"|(?:DeckFault|ProgramFault)Display::"
     r"|Below|word18::Word18::(?:get|widen|low_bits|from_bits)$|word60::Word60::(?:get|from_bits|low18)$"
 )

@@ -68,7 +68,7 @@ WORDS = [
         "one of the hopper's four places",
         "a position (in a word, a list or a program), a slot (of what is kept by number) or an address",
         crates(
-            "hopper hopper_tests in_flight program_order judging machine machine_tests progress_word machine_lock"
+            "hopper hopper_tests in_flight program_order machine machine_tests machine_lock"
             " job_deck contents_text reference_schedules memory_worker service"
         ),
         # A field of what a unit computes with has this name, and so has the hopper's place wherever it is named so.
@@ -81,7 +81,7 @@ WORDS = [
         "the right to serve the reservations of a unit",
         "a slot: the field of one unit, place or load channel",
         crates(
-            "program_order machine machine_tests progress_word machine_lock lock_tests worker_loops unit_workers"
+            "program_order machine machine_tests machine_lock lock_tests worker_loops unit_workers"
             " thread_tests schedule_tests"
         ),
         r"one of the seats that a machine gives out",
@@ -93,7 +93,7 @@ WORDS = [
         "to meet a test, to go on, to hand on",
         crates(
             "instructions instruction_table unit_ops sequential in_flight deck core_tests"
-            " unit_queue progress_word machine_lock lock_tests worker_loops unit_workers thread_tests"
+            " unit_queue machine_lock lock_tests worker_loops unit_workers thread_tests"
         ),
         r"(?!)",  # no line elsewhere
         r"`NO`|instruction|opcode|[Ll]ane\b|`Lane|\blog\b|LOG|\bissue",

@@ -4,10 +4,10 @@ ghost use Rattle.std.specs.Prelude.{◌≡◌};
 ghost use Rattle.program_order.specs.declared.event.Event.TheVariants.{BankFree, Issue, PpRead};
 ghost use Rattle.program_order.specs.Run.{answer_of};
 
+use crate::judging::{judge_access, judge_ask, judge_exchange, judge_finish, judge_issue};
 use crate::processor::made;
 use crate::{Answer, Done, Event, Machine, Note};
 use instruction_table::Refusal;
-use judging::{judge_access, judge_ask, judge_exchange, judge_finish, judge_issue};
 use sequential::Fetched;
 
 impl Machine {

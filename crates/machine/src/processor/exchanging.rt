@@ -4,10 +4,10 @@ ghost use Rattle.program_order.specs.declared.event.Event.TheVariants.{Ask, Exch
 ghost use Rattle.machine.specs.OneEvent.{IsEvent};
 
 use crate::changing::exchange;
+use crate::judging::{judge_ask, judge_exchange};
 use crate::processor::made;
 use crate::{Answer, Done, Machine};
 use instruction_table::Refusal;
-use judging::{judge_ask, judge_exchange};
 use relocation::PACKAGE_WORDS;
 
 /// The log entries that a request reserves: one for an instruction, one for the exchange and one for an instruction

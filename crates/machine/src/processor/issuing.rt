@@ -3,8 +3,8 @@
 ghost use Rattle.program_order.specs.declared.event.Event.TheVariants.{Issue};
 ghost use Rattle.machine.specs.OneEvent.{IsEvent};
 
+use crate::judging::judge_issue;
 use crate::{Answer, Done, Machine, Note};
-use judging::judge_issue;
 use sequential::Fetched;
 
 impl Machine {

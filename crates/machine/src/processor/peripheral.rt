@@ -4,10 +4,10 @@ ghost use Rattle.program_order.specs.declared.event.Event.TheVariants.{PpRead, P
 ghost use Rattle.machine.specs.OneEvent.{IsEvent};
 
 use crate::changing::perform;
+use crate::judging::judge_access;
 use crate::{Answer, Done, Machine};
 use hopper::Reference;
 use instruction_table::Refusal;
-use judging::judge_access;
 use relocation::Access;
 use word60::Word60;
 

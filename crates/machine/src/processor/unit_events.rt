@@ -7,11 +7,11 @@ ghost use Rattle.program_order.specs.Events.{allowed, after};
 ghost use Rattle.machine.specs.OneEvent.{IsEvent};
 ghost use Rattle.machine.specs.inner.Storing.{IsStoreOf};
 
+use crate::judging::judge_finish;
 use crate::processor::made;
 use crate::{Answer, Machine};
 use in_flight::{Located, Relocated, Stage};
 use instruction_table::{Refusal, Unit};
-use judging::judge_finish;
 use sequential::Work;
 use unit_ops::value;
 

@@ -7,7 +7,7 @@ use Rattle.sequential.specs.Replay.{LogStep, Issued}
 use Rattle.program_order.specs.declared.event.Done.{Done}
 use Rattle.program_order.specs.Processor.{Processor}
 use Rattle.program_order.specs.Invariant.{IsReplay}
-use Rattle.progress_word.specs.inner.Rules.{History, Knowing, IsKeeper, history, past}
+use Rattle.machine_lock.specs.inner.Rules.{History, Knowing, IsKeeper, history, past}
 
 -- the invariant of the machine and its pass: the effects so far, with those still to come, are the log's replay, and
 -- the pass's list is the log

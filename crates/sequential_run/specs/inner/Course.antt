@@ -2,7 +2,7 @@
 -- Source: ours.
 use Rattle.std.specs.Prelude.{ℕ, ◌≡◌, ◌≤◌, ◌<◌, ◌+◌, ◌-◌, ◌*◌, Bool, true, false, List, [], None, length, is_some}
 use Rattle.std.specs.Prelude.{if◌then◌else◌, ◌++◌, replicate}
-use Rattle.exchange_requests.specs.Requests.{AreOrdered, IsDue}
+use Rattle.sequential_run.specs.Requests.{AreOrdered, IsDue}
 use Rattle.instructions.specs.declared.refusal.Refusal.{Refusal}
 use Rattle.instructions.specs.declared.refusal.Refusal.TheVariants.{OutOfMemory, PackageRange}
 use Rattle.relocation.specs.Relocation.{package_fits}

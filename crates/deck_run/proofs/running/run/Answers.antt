@@ -3,8 +3,8 @@ use Rattle.sequential.specs.Log.{issued}
 use Rattle.sequential.specs.Replay.{LogStep, Exchanged, boot}
 use Rattle.unit_workers.specs.Beginning.{IsAtRest}
 use Rattle.program_order.specs.Processor.{Processor, boot_processor}
-use Rattle.exchange_requests.specs.Fulfilled.{IsFulfilled}
-use Rattle.sequential_job.specs.Running.{asks_after}
+use Rattle.sequential_run.specs.Fulfilled.{IsFulfilled}
+use Rattle.job_deck.specs.Running.{asks_after}
 use Rattle.sequential_run.specs.Run.{is_over}
 use Rattle.sequential_run.specs.Turns.{is_in_mid_word}
 use Rattle.sequential_run.proofs.Ending.{run_on}

@@ -1,5 +1,5 @@
 use Rattle.std.proofs.Common.{◌∙◌, ap}
-use Rattle.progress_word.specs.inner.Rules.{History}
+use Rattle.machine_lock.specs.inner.Rules.{History}
 use Rattle.machine_lock.proofs.Laws.{Compared, compared, replay_by}
 use Rattle.machine_lock.proofs.locked_machine.compare.Given as given
 use Rattle.machine_lock.proofs.locked_machine.compare.Goals as goal

@@ -1,6 +1,6 @@
 use Rattle.std.proofs.Common.{◌∙◌, ap}
 use Rattle.machine_lock.specs.inner.LockInvariant.{last_step}
-use Rattle.progress_word.specs.inner.Rules.{History}
+use Rattle.machine_lock.specs.inner.Rules.{History}
 use Rattle.machine_lock.proofs.Laws.{Recorded, recorded, Compared, compared, kept_by, replay_by, logged_one_more}
 use Rattle.machine_lock.proofs.Laws.{logged_no_more, seen_refused}
 use Rattle.machine_lock.proofs.locked_machine.record_or_compare.Given as given

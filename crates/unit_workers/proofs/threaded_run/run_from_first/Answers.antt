@@ -1,5 +1,5 @@
 use Rattle.std.proofs.Common.{sym, subst}
-use Rattle.progress_word.specs.CallerKnowledge.{Known}
+use Rattle.machine_lock.specs.CallerKnowledge.{Known}
 use Rattle.unit_workers.specs.Onward.{GoesOnFrom}
 use Rattle.unit_workers.specs.declared.threaded_run.Ended.{Ended}
 use Rattle.unit_workers.proofs.Onward.{at_first, ok_through}

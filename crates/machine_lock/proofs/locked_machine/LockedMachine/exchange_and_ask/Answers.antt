@@ -1,7 +1,7 @@
 use Rattle.std.proofs.Common.{refl, sym, subst}
 use Rattle.sequential.specs.Replay.{Exchanged}
 use Rattle.program_order.specs.declared.event.Event.TheVariants.{Ask}
-use Rattle.progress_word.specs.CallerKnowledge.{IsMade, Known}
+use Rattle.machine_lock.specs.CallerKnowledge.{IsMade, Known}
 use Rattle.machine_lock.specs.Held.{made_or_refused}
 use Rattle.machine_lock.proofs.Laws.{quiet_settled, same_seen}
 use Rattle.machine_lock.proofs.locked_machine.LockedMachine.exchange_and_ask.Goals as goal

@@ -1,7 +1,7 @@
 use Rattle.std.proofs.Common.{ap}
 use Rattle.std.specs.Prelude.{ℕ}
 use Rattle.atomic_table.specs.Table.{Me}
-use Rattle.progress_word.specs.inner.Rules.{Knowing}
+use Rattle.machine_lock.specs.inner.Rules.{Knowing}
 use Rattle.machine_lock.proofs.Laws.{known_by}
 use Rattle.machine_lock.proofs.Numbers.{numbers_apart, apart_by}
 use Rattle.machine_lock.proofs.shared.Shared.meet.Goals as goal

@@ -1,4 +1,0 @@
-pub mod First
-pub mod Choosing
-pub mod Counting
-pub mod Due

@@ -1,2 +1,0 @@
--- The relation between the code and its definitions. Source: ours.
-pub mod Judging

@@ -1,0 +1,8 @@
+use Rattle.std.proofs.Common.{sym, ◌∙◌, arith}
+use Rattle.machine_lock.proofs.Moves.{hands_back}
+use Rattle.machine_lock.proofs.word.Word.meet.Goals as goal
+
+pub split_seat-requires : goal.split_seat-requires
+split_seat-requires g c =
+    let w = c.args.self.now in
+    (c.look.ensures.pass.0 ∙ sym w.named, (omega (arith, w.one)), hands_back _ _)

@@ -1,8 +1,0 @@
-use Rattle.std.proofs.Common.{sym, ◌∙◌, arith}
-use Rattle.progress_word.proofs.Moves.{hands_back}
-use Rattle.progress_word.proofs.word.Word.compare.Goals as goal
-
-pub split_seat-requires : goal.split_seat-requires
-split_seat-requires g c =
-    let w = c.args.self.now in
-    (c.look.ensures.pass.0 ∙ sym w.named, (omega (arith, w.one)), hands_back _ _)

@@ -1,3 +1,0 @@
--- The position of the fault in a refused line.
--- Source: ours.
-pub mod Position

@@ -1,4 +1,0 @@
-pub mod Unread
-pub mod Fitting
-pub mod Unfit
-pub mod Judged
