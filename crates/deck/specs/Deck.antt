@@ -77,7 +77,7 @@ abbrev pub with_number : Option ℕ → (ℕ → LineOutcome) → LineOutcome
 with_number None next = Err faults.Number
 with_number (Some n) next = next n
 
--- whether a memory size isn't 32 to 131072 (fault `size`)
+-- whether no memory can have this size (fault `size`)
 abbrev pub is_no_size : ℕ → Bool
 is_no_size n = nat_lt n SMALLEST || nat_lt LARGEST n
 
