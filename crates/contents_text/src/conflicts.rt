@@ -8,7 +8,7 @@ ghost use Rattle.contents_text.specs.Contents.{reserved_line, reserved_of, reser
 
 use device_text::{Output, Piece, WriteFailed, put_pieces};
 use in_flight::Pending;
-use instruction_table::Reg;
+use instructions::Reg;
 
 /// Writes the line of a register that an instruction is still to write.
 fn put_reserved_line<O: Output>(

@@ -8,9 +8,9 @@ ghost use Rattle.job_deck.specs.AnswerText.{answer_line};
 ghost use Rattle.contents_text.specs.Events.{event_line};
 
 use device_text::{Output, Piece, WriteFailed, put_pieces};
-use instruction_table::Unit;
+use instructions::Unit;
 use job_deck::put_answer;
-use machine::{Answer, Event};
+use program_order::{Answer, Event};
 
 /// The line of an event that names nothing.
 fn alone(line: &'static [u8]) -> [Piece<'static>; 5]

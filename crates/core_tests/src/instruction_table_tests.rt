@@ -4,9 +4,9 @@ use crate::fixtures::{digit, index, word};
 use Known::{Branch, Copy, Difference, Increment, Jump, Load, Pass, Set, Stop, Sum};
 use Reading::{Extended, Legal, Refused, Straddle};
 use instruction_table::{
-    Addends, Addition, Base, Decoded, Instr, Op, Pair, Target, XTest, decode, decode_as, encode,
-    first_digits, opcode, read_bytes, read_text, spell, text,
+    Decoded, decode, decode_as, encode, first_digits, opcode, read_bytes, read_text, spell, text,
 };
+use instructions::{Addends, Addition, Base, Instr, Op, Pair, Target, XTest};
 use std::test::Fail;
 
 /// The instruction that sets register 1 of a kind to B0+10.

@@ -5,7 +5,8 @@ ghost use Rattle.device_text.specs.declared.line.TheConstants.{LONGEST_LINE};
 
 use arrayvec::ArrayVec;
 use device_text::first_part;
-use instruction_table::{Instr, encode, read_bytes};
+use instruction_table::{encode, read_bytes};
+use instructions::Instr;
 use parcel::join;
 use word60::Word60;
 

@@ -5,7 +5,7 @@ ghost use Rattle.instructions.specs.declared.refusal.DeckFault.TheVariants.{Rang
 ghost use Rattle.relocation.specs.Relocation.{IsMemorySize, is_memory_size};
 ghost use Rattle.deck.specs.Image.{placed_at, blank};
 
-use instruction_table::{DeckFault, Refusal};
+use instructions::{DeckFault, Refusal};
 use relocation::Storage;
 use std::alloc::Global;
 use std::marker::Model;

@@ -1,7 +1,7 @@
 ghost use Rattle.std.specs.Prelude.{◌≡◌, ◌<◌, ◌++◌, ◌∷◌, [], length, MatchResult};
 ghost use Rattle.instructions.specs.declared.refusal.Refusal.TheVariants.{OutOfMemory};
 
-use instruction_table::Refusal;
+use instructions::Refusal;
 use std::alloc::Global;
 use std::marker::Model;
 

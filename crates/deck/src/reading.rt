@@ -11,7 +11,7 @@ ghost use Rattle.device_text.specs.declared.line.TheConstants.{LONGEST_LINE};
 use crate::applying::first_size;
 use crate::deck::{Deck, Draft, Flow};
 use device_text::{CheckedReader, Input, LineBuffer, LineRead, read_line};
-use instruction_table::{DeckFault, Refusal};
+use instructions::{DeckFault, Refusal};
 use std::alloc::Global;
 use std::io::Read;
 

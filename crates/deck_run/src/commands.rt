@@ -5,10 +5,9 @@ ghost use Rattle.deck_run.specs.Running.{PrintsRun, Runs, EndsReplay, EndsReplay
 ghost use Rattle.deck_run.specs.Running.{is_read_fault, is_write_fault, replay_end};
 
 use super::running::run;
-use job_deck::{
-    Deck, Input, LineBuffer, Output, dump_to, read_deck_from, replay_following_to, replay_to,
-    run_sequentially_to,
-};
+use deck::{Deck, read_deck_from};
+use device_text::{Input, LineBuffer, Output};
+use job_deck::{dump_to, replay_following_to, replay_to, run_sequentially_to};
 use operator_terms::{Budget, ProgramFault, Status, end_status};
 use sequential::State;
 use std::alloc::Global;

@@ -7,15 +7,18 @@ ghost use Rattle.job_deck.specs.Running.{asks_after};
 ghost use Rattle.sequential_run.specs.Run.{IsRun};
 ghost use Rattle.deck_run.specs.Running.{EndsNoRun};
 
-use instruction_table::Refusal;
-use job_deck::{Deck, asks_after, booted};
-use machine::{Machine, Snapshot};
+use deck::Deck;
+use instructions::Refusal;
+use job_deck::{asks_after, booted};
+use machine::Machine;
 use operator_terms::{Budget, ProgramFault};
+use program_order::Snapshot;
 use std::alloc::{AllocError, Global};
 use std::sync::Wait;
 use std::thread::Threads;
 use std::time::Clock;
-use unit_workers::{Gates, Open, Orders, run_threads};
+use unit_workers::{Orders, run_threads};
+use worker_loops::{Gates, Open};
 
 /// The orders of a run of this deck: the package of the `start` line, and the requests of the `ask` lines. A request is
 /// made after a number of instructions or at any time.

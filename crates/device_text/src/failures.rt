@@ -2,7 +2,7 @@
 
 use crate::input::ReadFailed;
 use crate::output::WriteFailed;
-use instruction_table::Refusal;
+use instructions::Refusal;
 
 impl From<ReadFailed> for Refusal {
     ghost use Rattle.std.specs.Prelude.{◌≡◌};

@@ -6,7 +6,8 @@ ghost use Rattle.device_text.specs.Pieces.{code_text, reason_text, text_of, text
 use crate::digits::trim;
 use crate::output::{Output, WriteFailed};
 use crate::spelling::unit_name;
-use instruction_table::{Halt, Instr, Op, ParcelNumber, Reg, Unit, spell};
+use instruction_table::spell;
+use instructions::{Halt, Instr, Op, ParcelNumber, Reg, Unit};
 use itoa::Buffer;
 use word60::{Word18, Word60};
 

@@ -1,7 +1,7 @@
 ghost use Rattle.std.specs.Prelude.{◌≡◌};
 ghost use Rattle.device_text.specs.Names.{unit_text, unit_named};
 
-use instruction_table::Unit;
+use instructions::Unit;
 
 /// The name of a unit.
 pub fn unit_name(unit: Unit) -> &'static [u8]

@@ -5,8 +5,9 @@ ghost use Rattle.operator_terms.specs.declared.status.Status.TheVariants.{Usage}
 
 use crate::input_bytes::InputBytes;
 use crate::outcome::{Outcome, hand_over};
-use instruction_table::Refusal;
-use job_deck::{CheckedWriter, LineBuffer, events_to, list_to, replay_to, run_sequentially_to};
+use device_text::{CheckedWriter, LineBuffer};
+use instructions::Refusal;
+use job_deck::{events_to, list_to, replay_to, run_sequentially_to};
 use operator_terms::{Budget, ProgramFault, Status, end_status};
 use std::alloc::Global;
 

@@ -9,9 +9,10 @@ use crate::outcome::{NO_MACHINE, Outcome, hand_over, silent};
 use crate::stepping::{line_said, refuse_line, written_end};
 use arrayvec::ArrayVec;
 use contents_text::{Part, put_contents, put_judgement};
-use instruction_table::DeckFault;
-use job_deck::{CheckedWriter, ScheduleLine};
-use machine::Event;
+use device_text::CheckedWriter;
+use instructions::DeckFault;
+use job_deck::ScheduleLine;
+use program_order::Event;
 use std::alloc::Global;
 
 /// A buffer size that is more than the bytes of the lines of any part.

@@ -1,6 +1,6 @@
 ghost use Rattle.std.specs.Prelude.{◌≡◌, Some, false};
 
-use job_deck::{Input, ReadFailed};
+use device_text::{Input, ReadFailed};
 
 /// The bytes of a caller as an input. No read of them fails.
 #[derive(Drop)]

@@ -5,7 +5,7 @@ ghost use Rattle.embedding.specs.Embedding.{filled};
 
 use crate::booted::Booted;
 use crate::outcome::Outcome;
-use instruction_table::{Halt, Op};
+use instructions::{Halt, Op};
 use operator_terms::Status;
 use relocation::Storage;
 use sequential::State;

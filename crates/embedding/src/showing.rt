@@ -6,9 +6,11 @@ ghost use Rattle.embedding.specs.Keeping.{HandsOverText, IsDumped, IsLogged, aft
 use crate::booted::Booted;
 use crate::outcome::{NOT_DRAINED, Outcome, hand_over, silent};
 use crate::stepping::written_end;
-use job_deck::{CheckedWriter, Deck, dump_to, put_log};
-use machine::Snapshot;
+use deck::Deck;
+use device_text::CheckedWriter;
+use job_deck::{dump_to, put_log};
 use operator_terms::ProgramFault;
+use program_order::Snapshot;
 use std::alloc::Global;
 
 /// Copies the dump of a snapshot to the caller.

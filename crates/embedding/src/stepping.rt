@@ -12,11 +12,12 @@ use crate::booted::Booted;
 use crate::outcome::{Outcome, hand_over};
 use arrayvec::ArrayVec;
 use contents_text::put_event;
-use device_text::LONGEST_LINE;
-use instruction_table::DeckFault;
-use job_deck::{CheckedWriter, ScheduleLine, WriteFailed, parse_schedule_line, put_answer};
-use machine::{Answer, Event, Machine};
+use device_text::{CheckedWriter, LONGEST_LINE, WriteFailed};
+use instructions::DeckFault;
+use job_deck::{ScheduleLine, parse_schedule_line, put_answer};
+use machine::Machine;
 use operator_terms::{ProgramFault, Status};
+use program_order::{Answer, Event};
 
 /// A buffer size that is more than the bytes of an event's line and its answer's line together.
 const LINES: usize = 128;

@@ -26,7 +26,7 @@ use crate::slots::{SLOTS, Slots};
 use crate::{Arrival, Located, Outstanding, Pending, Phase, Relocated, Stage};
 use arrayvec::ArrayVec;
 use hopper::{Hopper, Reference};
-use instruction_table::{Instr, Refusal, Unit};
+use instructions::{Instr, Refusal, Unit};
 use registers::RegisterFile;
 use relocation::{Access, Storage};
 use scoreboard::Board;

@@ -4,7 +4,7 @@ ghost use Rattle.in_flight.specs.Pending.{delays_access, delays_fetch, has_read,
 ghost use Rattle.in_flight.specs.Pending.{occupancy_of, reservation_of, returning, stores_in, waits_in};
 
 use hopper::Reference;
-use instruction_table::{Digit, Instr, Unit};
+use instructions::{Digit, Instr, Unit};
 use relocation::Access;
 use scoreboard::{Occupancy, Reservation};
 use unit_ops::{Operands, UnitValue};

@@ -12,7 +12,7 @@ ghost use Rattle.instructions.specs.Order.{insert_by};
 use crate::{Arrival, Outstanding, Pending, Phase, Stage};
 use arrayvec::ArrayVec;
 use hopper::Reference;
-use instruction_table::Unit;
+use instructions::Unit;
 use std::marker::Model;
 
 /// How many instructions can be pending at most: one in each of the 10 units, the 4 places of the hopper and the 8 load

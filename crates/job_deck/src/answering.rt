@@ -4,8 +4,8 @@ ghost use Rattle.job_deck.specs.AnswerText.{answer_line, named_text};
 ghost use Rattle.device_text.specs.Putting.{Puts};
 
 use device_text::{Output, Piece, WriteFailed, put_pieces};
-use instruction_table::Refusal;
-use machine::{Answer, Done, Note};
+use instructions::Refusal;
+use program_order::{Answer, Done, Note};
 
 /// Writes the label of a refusal: its number and its text.
 fn put_label<O: Output>(output: &mut O, refusal: &Refusal) -> Result<(), WriteFailed>

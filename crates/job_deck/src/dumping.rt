@@ -11,7 +11,7 @@ ghost use Rattle.sequential.specs.Log.{entries_of};
 
 use deck::{Deck, Show};
 use device_text::{CheckedWriter, Output, Piece, WriteFailed, put_pieces};
-use instruction_table::{Halt, Refusal};
+use instructions::{Halt, Refusal};
 use registers::RegisterFile;
 use relocation::{Area, Storage};
 use sequential::{Entry, Log, ProgramPosition, State};

@@ -9,7 +9,7 @@ ghost use Rattle.job_deck.specs.Listing.{is_write_failure};
 use crate::dumping::{dump_to, put_log_line};
 use deck::Deck;
 use device_text::{Output, WriteFailed};
-use instruction_table::Refusal;
+use instructions::Refusal;
 use machine::Machine;
 
 /// Writes the dump of a drained machine and flushes the output.

@@ -12,7 +12,8 @@ use deck::{Image, read_deck_from};
 use device_text::{
     CheckedReader, CheckedWriter, Input, LineBuffer, Output, Piece, WriteFailed, put_pieces,
 };
-use instruction_table::{Decoded, Refusal, decode};
+use instruction_table::{Decoded, decode};
+use instructions::Refusal;
 use std::alloc::Global;
 use std::io::{Read, Write};
 use word60::{Word18, Word60};

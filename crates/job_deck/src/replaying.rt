@@ -9,7 +9,7 @@ ghost use Rattle.job_deck.specs.Replaying.{replayed_steps, Prints, Replays, Repl
 use crate::dumping::dump_to;
 use deck::{Deck, read_deck_from};
 use device_text::{CheckedReader, CheckedWriter, Input, LineBuffer, Output};
-use instruction_table::Refusal;
+use instructions::Refusal;
 use log_text::{read_log, read_log_from};
 use sequential::{Log, State};
 use std::alloc::Global;

@@ -10,7 +10,7 @@ ghost use Rattle.job_deck.specs.Running.{IsJobRun, IsWhyNoJobRun, PrintsSequenti
 use crate::dumping::dump_to;
 use deck::{Deck, read_deck_from};
 use device_text::{CheckedReader, CheckedWriter, Input, LineBuffer, Output};
-use instruction_table::Refusal;
+use instructions::Refusal;
 use sequential::State;
 use sequential_run::{Ask, CompletedRun};
 use std::alloc::{AllocError, Global};

@@ -4,8 +4,8 @@ ghost use Rattle.job_deck.specs.Schedule.{schedule_line, line_of_fields, line_of
 ghost use Rattle.job_deck.specs.Schedule.{line_of_three_fields, line_with_number};
 
 use device_text::{first_part, number, unit_named};
-use instruction_table::DeckFault;
-use machine::Event;
+use instructions::DeckFault;
+use program_order::Event;
 use word60::Word60;
 
 /// The meaning of one line of a schedule.

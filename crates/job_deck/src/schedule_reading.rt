@@ -6,7 +6,7 @@ ghost use Rattle.deck.specs.declared.reading.TheConstants.{MOST_LINES};
 
 use crate::schedule::{ScheduleLine, parse_schedule_line};
 use device_text::{Input, LineBuffer, LineRead, Output, ReadFailed, read_line};
-use instruction_table::DeckFault;
+use instructions::DeckFault;
 
 /// Reads line `number` of a schedule that begins after line `before` into a buffer, and parses it. Before each line but
 /// the first, the answers must have been flushed; the function takes the output only for this requirement.

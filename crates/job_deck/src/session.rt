@@ -16,8 +16,9 @@ use crate::schedule::ScheduleLine;
 use crate::schedule_reading::read_schedule_line;
 use deck::{Deck, MOST_LINES, read_deck_from, with_line_number};
 use device_text::{CheckedReader, CheckedWriter, Input, LineBuffer, Output, WriteFailed};
-use instruction_table::{DeckFault, Refusal};
-use machine::{Event, Machine};
+use instructions::{DeckFault, Refusal};
+use machine::Machine;
+use program_order::Event;
 use std::alloc::Global;
 use std::io::{Read, Write};
 

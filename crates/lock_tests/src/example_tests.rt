@@ -3,9 +3,10 @@ ghost use Rattle.std.specs.Prelude.{◌≡◌, IfOk};
 ghost use Rattle.machine_lock.specs.CallerKnowledge.{AreApart, NumbersApart, StartsWith};
 
 use crate::fixtures::{booted, leave_all};
-use instruction_table::Refusal;
-use machine::{Machine, Note, Snapshot};
+use instructions::Refusal;
+use machine::Machine;
 use machine_lock::{Ground, Naming, Seen, Shared};
+use program_order::{Note, Snapshot};
 use sequential::Entry;
 use std::alloc::Global;
 use std::marker::Brand;

@@ -1,7 +1,8 @@
 //! Words, booted machines, notes, seats and log entries that the tests share.
 
-use instruction_table::{Digit, PerUnit, Refusal, Reg, Unit};
-use machine::{Machine, Note, Seat};
+use instructions::{Digit, PerUnit, Refusal, Reg, Unit};
+use machine::{Machine, Seat};
+use program_order::Note;
 use relocation::Storage;
 use sequential::Entry;
 use std::alloc::Global;

@@ -3,7 +3,7 @@
 use crate::fixtures::{Issued, booted_over, note, of_increments, word, x};
 use crate::lock_tests::{issued, serve, start};
 use crate::scenario::{Scenario, play};
-use instruction_table::{Refusal, Unit};
+use instructions::{Refusal, Unit};
 use machine::{Loaded, Seat};
 use machine_lock::{LockedMachine, Naming, Seen, Shared};
 use std::sync::Wait;

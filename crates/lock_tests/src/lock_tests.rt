@@ -7,9 +7,10 @@ use crate::fixtures::{
     FIRST, Issued, SECOND, booted, is_empty, leave, leave_all, note, of_increments, word, x,
 };
 use crate::scenario::{Scenario, play};
-use instruction_table::{Refusal, Unit};
-use machine::{Computed, Event, Finished, Loaded, Machine, Note, Reserved, Seat, Snapshot};
+use instructions::{Refusal, Unit};
+use machine::{Computed, Finished, Loaded, Machine, Reserved, Seat};
 use machine_lock::{Ground, Naming, Seen, Shared};
+use program_order::{Event, Note, Snapshot};
 use sequential::Entry;
 use std::alloc::Global;
 use std::marker::Brand;

@@ -2,7 +2,7 @@
 
 ghost use Rattle.std.specs.Prelude.{◌≡◌};
 
-use instruction_table::Refusal;
+use instructions::Refusal;
 use machine::{Machine, Seat};
 use machine_lock::{Ground, Naming, Seen, Shared};
 use std::alloc::Global;

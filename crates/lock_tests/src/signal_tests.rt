@@ -3,9 +3,11 @@ ghost use Rattle.std.specs.Prelude.{◌≡◌};
 
 use crate::fixtures::{FIRST, booted, leave, leave_all, note, of_increment1};
 use crate::scenario::{Scenario, play};
-use instruction_table::{Refusal, Unit};
-use machine::{Machine, Note, Seat};
-use machine_lock::{Ground, Naming, Seen, Shared, Signal, Signals, Wakeups};
+use instructions::{Refusal, Unit};
+use machine::{Machine, Seat};
+use machine_lock::{Ground, Naming, Seen, Shared};
+use program_order::Note;
+use signals::{Signal, Signals, Wakeups};
 use std::alloc::Global;
 use std::marker::Brand;
 use std::sync::Wait;

@@ -10,7 +10,7 @@ ghost use Rattle.log_text.specs.inner.LogLineParts.{is_none_line};
 use crate::logs::{Allowance, add_field};
 use arrayvec::ArrayVec;
 use device_text::{Input, ReadFailed};
-use instruction_table::Refusal;
+use instructions::Refusal;
 use sequential::Log;
 use std::alloc::Global;
 

@@ -8,8 +8,7 @@ ghost use Rattle.log_text.specs.LogText.{word_without_leading_zeros, entry_in, e
 ghost use Rattle.log_text.specs.LogText.{read_in, write_in, written_in, spent, steps_in, log_in, AddsField, LogHas};
 
 use device_text::{first_part, number};
-use instruction_table::Refusal;
-use instructions::{MOST_ACCESSES, MOST_ISSUES, MOST_REQUESTS};
+use instructions::{MOST_ACCESSES, MOST_ISSUES, MOST_REQUESTS, Refusal};
 use sequential::{Entry, Log};
 use std::alloc::Global;
 use word60::Word60;

@@ -4,7 +4,7 @@ ghost use Rattle.machine_lock.specs.CallerKnowledge.{known};
 
 use crate::rule::{Naming, Pass};
 use crate::word::Word;
-use instruction_table::Refusal;
+use instructions::Refusal;
 use std::alloc::Global;
 use std::marker::Model;
 use std::sync::Arc;

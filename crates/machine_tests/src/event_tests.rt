@@ -1,8 +1,9 @@
 //! Events that no line of a session can express, and a program that is issued and drained by turns.
 
 use crate::fixtures::{MADE, drain, issued, make, meets, shows, started_on};
-use instruction_table::{Halt, Refusal, Unit};
-use machine::{Answer, Event, Machine};
+use instructions::{Halt, Refusal, Unit};
+use machine::Machine;
+use program_order::{Answer, Event};
 use std::process::Abort;
 use std::test::Fail;
 

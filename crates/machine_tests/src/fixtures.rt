@@ -1,7 +1,8 @@
 //! Memories, started machines, events and checks of a drained machine that the tests share.
 
-use instruction_table::{Digit, Refusal, Reg, Unit};
-use machine::{Answer, Done, Event, Machine, Note, Seat};
+use instructions::{Digit, Refusal, Reg, Unit};
+use machine::{Machine, Seat};
+use program_order::{Answer, Done, Event, Note};
 use relocation::Storage;
 use sequential::Entry;
 use std::alloc::Global;

@@ -6,7 +6,8 @@ ghost use Rattle.in_flight.specs.Flight.{IsRestOf};
 
 use hopper::Reference;
 use in_flight::{Arrival, InFlight, Pending, Phase, Relocated, Stage};
-use instruction_table::{Addends, Digit, Instr, Pair, Refusal, Reg, Unit, read_text};
+use instruction_table::read_text;
+use instructions::{Addends, Digit, Instr, Pair, Refusal, Reg, Unit};
 use registers::RegisterFile;
 use relocation::{Access, Storage};
 use std::marker::Model;

@@ -4,7 +4,8 @@ use crate::flight_calls::{
     three_and_four, x,
 };
 use in_flight::{InFlight, Relocated, Stage};
-use instruction_table::{Digit, Instr, Refusal, Target, Unit, read_text};
+use instruction_table::read_text;
+use instructions::{Digit, Instr, Refusal, Target, Unit};
 use relocation::{Access, Storage};
 use std::test::Fail;
 use word60::{Word18, Word60};

@@ -14,8 +14,9 @@ use crate::fixtures::{
     MADE, booted, drain, issued, make, meets, memory_of, of_increment1, seat_of_increment1, shows,
     started,
 };
-use instruction_table::{Refusal, Unit};
-use machine::{Answer, Event, Machine, Note, Seat, Snapshot, what_is_reached_is_faithful};
+use instructions::{Refusal, Unit};
+use machine::{Machine, Seat};
+use program_order::{Answer, Event, Note, Snapshot, what_is_reached_is_faithful};
 use relocation::Storage;
 use sequential::Entry;
 use std::alloc::Global;

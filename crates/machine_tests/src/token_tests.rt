@@ -4,8 +4,9 @@
 use crate::fixtures::{
     MADE, drain, issued, make, meets, seat_of_increment1, shows, started, started_with, x,
 };
-use instruction_table::{Refusal, Unit};
-use machine::{Answer, Computed, Event, Finished, Loaded, Machine, Note, Reserved, Seat};
+use instructions::{Refusal, Unit};
+use machine::{Computed, Finished, Loaded, Machine, Reserved, Seat};
+use program_order::{Answer, Event, Note};
 use std::alloc::Global;
 use std::process::Abort;
 use std::test::Fail;

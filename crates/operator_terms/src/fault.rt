@@ -1,7 +1,7 @@
 ghost use Rattle.std.specs.Prelude.{◌≡◌};
 
 use crate::status::Status;
-use instruction_table::{DeckFault, Refusal};
+use instructions::{DeckFault, Refusal};
 use thiserror::Error;
 
 /// Why the program ends without its output. `Display` writes the refusal's label and text, or a text of the program's.

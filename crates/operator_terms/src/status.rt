@@ -1,7 +1,7 @@
 ghost use Rattle.std.specs.Prelude.{◌≡◌};
 ghost use Rattle.operator_terms.specs.Status.{status_of};
 
-use instruction_table::Halt;
+use instructions::Halt;
 use sequential::State;
 
 /// The exit statuses of the program.

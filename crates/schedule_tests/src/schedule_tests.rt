@@ -7,12 +7,13 @@ use super::dump::put_dump;
 use super::schedule::Schedule;
 use super::seat_holder::SeatHolder;
 use super::{branch_schedules, exchange_schedules, reference_schedules, register_schedules};
-use instruction_table::{Refusal, Unit};
-use job_deck::{
-    CheckedWriter, Deck, ScheduleLine, dump, events, parse_schedule_line, put_answer, read_deck,
-};
-use machine::{Answer, Event, Machine, Snapshot};
+use deck::{Deck, read_deck};
+use device_text::CheckedWriter;
+use instructions::{Refusal, Unit};
+use job_deck::{ScheduleLine, dump, events, parse_schedule_line, put_answer};
+use machine::Machine;
 use machine_lock::{Ground, Naming};
+use program_order::{Answer, Event, Snapshot};
 use relocation::Storage;
 use std::alloc::{AllocError, Global};
 use std::marker::Brand;

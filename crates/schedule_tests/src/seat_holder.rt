@@ -2,9 +2,10 @@
 
 ghost use Rattle.std.specs.Prelude.{◌≡◌};
 
-use instruction_table::{PerUnit, Refusal, Unit};
-use machine::{Answer, Computed, Done, Event, Finished, Machine, Note, Reserved, Seat, Snapshot};
+use instructions::{PerUnit, Refusal, Unit};
+use machine::{Computed, Finished, Machine, Reserved, Seat};
 use machine_lock::{Ground, Naming, Seen, Shared};
+use program_order::{Answer, Done, Event, Note, Snapshot};
 use std::alloc::Global;
 use std::mem;
 use std::sync::Wait;

@@ -3,7 +3,8 @@ ghost use Rattle.sequential.specs.State.{bounds_of};
 ghost use Rattle.sequential.specs.Step.{at_instruction, fetched_by, word_seen, fetch};
 
 use crate::{ProgramPosition, State};
-use instruction_table::{Decoded, Halt, Instr, decode};
+use instruction_table::{Decoded, decode};
+use instructions::{Halt, Instr};
 use relocation::relocate;
 use word60::Word60;
 

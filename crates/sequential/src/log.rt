@@ -5,7 +5,7 @@ ghost use Rattle.sequential.specs.Log.{issued, last_run, steps_of, entries_of, m
 ghost use Rattle.std.specs.Vec.{vec_len, vec_capacity};
 ghost use Rattle.sequential.specs.Replay.{Issued, Exchanged, ReadAt, Wrote};
 
-use instruction_table::Refusal;
+use instructions::Refusal;
 use std::alloc::Global;
 use std::marker::Model;
 use word60::Word60;

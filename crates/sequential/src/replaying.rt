@@ -6,7 +6,7 @@ ghost use Rattle.sequential.specs.State.{store_word};
 ghost use Rattle.sequential.specs.Replay.{Issued, replay, IsRefusedAt};
 
 use crate::{Entry, Log, State, step};
-use instruction_table::Refusal;
+use instructions::Refusal;
 use word60::Word60;
 
 /// Makes `count` steps. A halted machine doesn't change, so the loop stops at a halt.

@@ -6,7 +6,7 @@ ghost use Rattle.sequential.specs.Swap.{swap, package_of};
 
 use crate::ProgramPosition;
 use exchange_package::Package;
-use instruction_table::{Halt, Refusal};
+use instructions::{Halt, Refusal};
 use registers::RegisterFile;
 use relocation::{Area, Storage};
 

@@ -8,7 +8,8 @@ ghost use Rattle.sequential.specs.Work.{fault_of, refer_at, refer, written};
 
 use crate::fetching::fetched_by;
 use crate::{Fetched, ProgramPosition, ProgramReference, State, Work, operands};
-use instruction_table::{Halt, Instr, Reg, decode_as, first_digits};
+use instruction_table::{decode_as, first_digits};
+use instructions::{Halt, Instr, Reg};
 use relocation::{Access, Area, relocate};
 use unit_ops::{Operands, UnitValue, value};
 use word60::{Word18, Word60};

@@ -2,7 +2,7 @@ ghost use Rattle.std.specs.Prelude.{◌≡◌};
 ghost use Rattle.instructions.specs.Shape.{shape_of};
 ghost use Rattle.sequential.specs.Work.{IsWorkOf, operand_at, operands, link_word};
 
-use instruction_table::{Instr, MemoryUse, Reg, operand_registers};
+use instructions::{Instr, MemoryUse, Reg, operand_registers};
 use registers::RegisterFile;
 use relocation::Access;
 use unit_ops::{Operands, UnitValue};

@@ -9,7 +9,7 @@ ghost use Rattle.sequential_run.specs.inner.Course.{IsKept, CanIssue, IsWhyRefus
 
 use crate::requests::Requests;
 use crate::stepping::{is_going, is_in_mid_word, issue_many};
-use instruction_table::Refusal;
+use instructions::Refusal;
 use sequential::{Log, State};
 use std::collections::VecDeque;
 

@@ -5,7 +5,7 @@ ghost use Rattle.sequential_run.specs.Run.{IsRun, IsSequentialRun, IsWhyNoRun};
 
 use crate::course::Course;
 use crate::requests::{Ask, Requests};
-use instruction_table::Refusal;
+use instructions::Refusal;
 use relocation::Storage;
 use sequential::{Log, State};
 use std::alloc::{AllocError, Global};

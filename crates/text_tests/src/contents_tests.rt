@@ -1,9 +1,12 @@
 //! Tests of the contents of a machine's parts and of the instructions that hold an event back, as lines of text.
 
 use contents_text::{Part, put_contents, put_judgement};
-use instruction_table::{Refusal, Unit};
-use job_deck::{CheckedWriter, booted, read_deck};
-use machine::{Event, Machine};
+use deck::read_deck;
+use device_text::CheckedWriter;
+use instructions::{Refusal, Unit};
+use job_deck::booted;
+use machine::Machine;
+use program_order::Event;
 use std::alloc::Global;
 use std::process::Abort;
 use std::test::Fail;

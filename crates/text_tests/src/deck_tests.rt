@@ -3,7 +3,7 @@
 use crate::fixtures::{FOUR_WORDS, joined};
 use deck::{AskLine, Deck, read_deck, read_deck_from};
 use device_text::{CheckedBufReader, LineBuffer};
-use instruction_table::{DeckFault, Refusal};
+use instructions::{DeckFault, Refusal};
 use std::process::Abort;
 use std::test::Fail;
 

@@ -7,7 +7,7 @@ use device_text::{
     CheckedBufReader, CheckedReader, CheckedWriter, Input, LineRead, Output, Piece, ReadFailed,
     WriteFailed, first_part, number, put_pieces, read_line, unit_named,
 };
-use instruction_table::Unit;
+use instructions::Unit;
 use std::alloc::{AllocError, Global};
 use std::io;
 use std::io::{ErrorKind, Write};

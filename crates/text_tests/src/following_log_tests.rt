@@ -3,8 +3,9 @@
 use crate::fixtures::{Failing, joined};
 use crate::session_tests::{DECK, EXCHANGED};
 use device_text::CheckedReader;
-use instruction_table::Refusal;
-use job_deck::{read_log_from, replay_following};
+use instructions::Refusal;
+use job_deck::replay_following;
+use log_text::read_log_from;
 use std::alloc::Global;
 use std::io::Read;
 use std::test::Fail;

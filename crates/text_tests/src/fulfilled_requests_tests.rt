@@ -1,6 +1,6 @@
 //! Tests of logs that fulfil the requests of their run, and of logs that don't.
 
-use job_deck::read_log;
+use log_text::read_log;
 use sequential_run::{are_fulfilled, in_order};
 use std::alloc::AllocError;
 use std::process::Abort;

@@ -16,9 +16,9 @@ ghost use Rattle.device_text.specs.Device.{Moves};
 ghost use Rattle.device_text.specs.Line.{lines_of};
 ghost use Rattle.job_deck.specs.Session.{Says};
 
-use instruction_table::Refusal;
+use instructions::Refusal;
 use job_deck::events;
-use machine::what_is_reached_is_faithful;
+use program_order::what_is_reached_is_faithful;
 use std::alloc::Global;
 use std::io::{Read, Write};
 use std::test::Fail;

@@ -1,7 +1,6 @@
 //! Tests of exit statuses, the texts of faults, and budgets.
 
-use instruction_table::{DeckFault, Digit, Halt, Op};
-use instructions::MOST_ISSUES;
+use instructions::{DeckFault, Digit, Halt, MOST_ISSUES, Op};
 use operator_terms::{Budget, ProgramFault, end_status};
 use registers::RegisterFile;
 use relocation::{Area, Storage};

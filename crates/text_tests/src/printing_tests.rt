@@ -1,8 +1,10 @@
 //! Tests of listings, dumps and logs.
 
 use crate::fixtures::{Dripping, FOUR_WORDS, Failing, joined};
-use instruction_table::Refusal;
-use job_deck::{dump, list, read_deck, read_log};
+use deck::read_deck;
+use instructions::Refusal;
+use job_deck::{dump, list};
+use log_text::read_log;
 use relocation::Storage;
 use sequential::{Log, State};
 use std::alloc::{AllocError, Global};

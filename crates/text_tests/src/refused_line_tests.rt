@@ -1,7 +1,7 @@
 //! Tests of the positions of faults, and of their printed form.
 
 use device_text::find_fault;
-use instruction_table::DeckFault;
+use instructions::DeckFault;
 use std::test::Fail;
 
 /// A fault, a line that has the fault, and the printed position.

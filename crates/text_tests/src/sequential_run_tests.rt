@@ -5,7 +5,7 @@ ghost use Rattle.std.specs.Prelude.{◌≡◌, ◌+◌, ◌<◌, ◌^◌, length
 ghost use Rattle.sequential_run.specs.Made.{IsMadeByEvents};
 
 use crate::fixtures::{FOUR_WORDS, Failing, joined};
-use instruction_table::{Halt, Refusal};
+use instructions::{Halt, Refusal};
 use relocation::Storage;
 use sequential::Entry;
 use sequential_run::{Ask, CompletedRun, a_run_by_one_is_made_by_events, a_run_has_one_result};

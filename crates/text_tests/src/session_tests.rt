@@ -1,7 +1,7 @@
 //! Tests of sessions: their answers, the output before a failure, and the input that is left unread.
 
 use crate::fixtures::{Dripping, Failing, joined};
-use instruction_table::{DeckFault, Refusal};
+use instructions::{DeckFault, Refusal};
 use job_deck::{events, replay};
 use std::alloc::{AllocGlobal, Global};
 use std::io::Read;

@@ -4,17 +4,18 @@ ghost use Rattle.std.specs.Prelude.{◌≡◌, IfOk};
 ghost use Rattle.machine_lock.specs.CallerKnowledge.{IsWordOf};
 
 use crate::thread_tests::{BOTH, Hold, NOTES, REGISTERS, Started, of_boolean_and_shift, start};
-use instruction_table::{Refusal, Unit};
+use instructions::{Refusal, Unit};
 use lock_tests::fixtures::{Wanted, are, booted_over, is_empty, leave_all, note, word, x};
-use machine::{Machine, Note, Seat, Snapshot};
+use machine::{Machine, Seat};
 use machine_lock::{Ground, Naming, Seen, Shared};
+use program_order::{Note, Snapshot};
 use std::alloc::Global;
 use std::marker::Brand;
 use std::sync::Wait;
 use std::test::Fail;
 use std::thread::{Threads, join};
-use unit_workers::{Gate, serve};
 use word60::Word60;
+use worker_loops::{Gate, serve};
 
 /// The address of the word.
 const AT: u32 = 0o210;

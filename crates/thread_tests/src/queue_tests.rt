@@ -2,8 +2,8 @@
 
 ghost use Rattle.std.specs.Prelude.{◌≡◌};
 
-use instruction_table::Unit;
-use machine::Note;
+use instructions::Unit;
+use program_order::Note;
 use std::sync::Wait;
 use std::test::Fail;
 use std::thread;

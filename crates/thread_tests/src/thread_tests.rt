@@ -3,13 +3,14 @@
 ghost use Rattle.std.specs.Prelude.{◌≡◌};
 
 use crate::queue_tests::{Sending, Taking};
-use instruction_table::{Digit, Halt, Refusal, Reg, Unit};
+use instructions::{Digit, Halt, Refusal, Reg, Unit};
 use lock_tests::fixtures::{
     Issued, Wanted, Words, are, booted, booted_over, is_empty, leave_all, note, of_increment1,
     word, x,
 };
-use machine::{Event, Machine, Note, Seat};
+use machine::{Machine, Seat};
 use machine_lock::{Ground, Naming, Seen, Shared};
+use program_order::{Event, Note};
 use registers::RegisterFile;
 use sequential::Entry;
 use std::alloc::{AllocError, Global};
@@ -21,9 +22,8 @@ use std::thread;
 use std::thread::Threads;
 use std::time::Clock;
 use unit_queue::{Lane, SendPass, TakePass, lane};
-use unit_workers::{
-    Ended, Gate, Gates, Open, Orders, Tally, run_threads, serve, storage_worker, worker,
-};
+use unit_workers::{Ended, Orders, run_threads};
+use worker_loops::{Gate, Gates, Open, Tally, serve, storage_worker, worker};
 
 fn orders(alloc: Global) -> Orders {
     Orders {

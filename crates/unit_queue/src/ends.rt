@@ -8,8 +8,8 @@ ghost use Rattle.unit_queue.specs.Lanes.{IsOrderly, IsBeginning, IsFull, HadRoom
 use crate::item::Item;
 use crate::rule::{Ends, LaneRule, LaneView, Sends, Settles, Takes};
 use crossbeam_queue::{Pass, RuledArrayQueue};
-use instruction_table::{Refusal, Unit};
-use machine::Note;
+use instructions::{Refusal, Unit};
+use program_order::Note;
 use std::alloc::Global;
 use std::marker::Model;
 use std::sync::Wait;

@@ -3,7 +3,7 @@
 ghost use Rattle.std.specs.Prelude.{◌≡◌};
 ghost use Rattle.unit_queue.specs.Lanes.{is_closing};
 
-use machine::Note;
+use program_order::Note;
 
 /// An item that a lane carries.
 #[derive(Clone, Copy, Debug, Drop, PartialEq, Eq)]

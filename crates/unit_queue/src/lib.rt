@@ -17,7 +17,7 @@ mod item;
 mod rule;
 
 pub use ends::{Lane, SendPass, TakePass};
-use instruction_table::{Refusal, Unit};
+use instructions::{Refusal, Unit};
 pub use item::Item;
 use std::alloc::Global;
 

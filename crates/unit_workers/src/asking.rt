@@ -1,6 +1,6 @@
 //! The thread that makes the requests for exchanges that may be made at any time.
 
-use instruction_table::Refusal;
+use instructions::Refusal;
 use machine_lock::{Naming, Seen, Shared};
 use signals::Waiting;
 use std::sync::Wait;

@@ -14,7 +14,7 @@ ghost use Rattle.unit_workers.specs.Settled.{in_use, IsSettled, AreSettled};
 use crate::asking::{FreeRequests, ask_all};
 use crate::issuing::{PendingRequests, begin, conduct};
 use crate::worker_lanes::{LaneEnds, Settled, WorkerLanes, open_lanes};
-use instruction_table::{PerUnit, Refusal};
+use instructions::{PerUnit, Refusal};
 use machine::{Machine, Seat};
 use machine_lock::{Ground, Naming, Seen, Shared};
 use sequential_run::{Ask, Requests, are_fulfilled, in_order, is_in_mid_word};

@@ -5,9 +5,10 @@ ghost use Rattle.instructions.specs.PerUnit.{Each, paired};
 ghost use Rattle.unit_workers.specs.Settled.{in_use, IsSettled};
 
 use crossbeam_utils::Backoff;
-use instruction_table::{PerUnit, Unit};
-use machine::{Note, Seat};
+use instructions::{PerUnit, Unit};
+use machine::Seat;
 use machine_lock::{Naming, Shared};
+use program_order::Note;
 use signals::Signals;
 use std::alloc::Global;
 use std::snapshot::Snapshot as GhostCopy;

@@ -3,7 +3,7 @@
 ghost use Rattle.std.specs.Prelude.{◌≡◌, ◌∷◌, []};
 ghost use Rattle.instructions.specs.PerUnit.{in_order};
 
-use instruction_table::{PerUnit, Unit};
+use instructions::{PerUnit, Unit};
 
 /// A hook that a unit's worker calls at two moments of each reservation, with the reservation's unit and number: before
 /// it computes, and after it has stored. The worker holds no lock then, so a gate may wait for others.

@@ -2,8 +2,7 @@
 //! references, frees banks and returns loads.
 
 use hopper::PLACES;
-use instruction_table::Refusal;
-use instructions::{FIRST_CHANNEL, PAST_CHANNELS};
+use instructions::{FIRST_CHANNEL, PAST_CHANNELS, Refusal};
 use machine_lock::{LockedMachine, Naming, Shared};
 use std::sync::Wait;
 

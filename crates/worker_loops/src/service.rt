@@ -3,9 +3,10 @@ ghost use Rattle.std.specs.Prelude.{◌≡◌, suc, IfOk, IfErr, MatchBool, Matc
 ghost use Rattle.machine.specs.Tokens.{one_more};
 
 use crate::gate::Gate;
-use instruction_table::{Refusal, Unit};
-use machine::{Computed, Loaded, Note, Seat};
+use instructions::{Refusal, Unit};
+use machine::{Computed, Loaded, Seat};
 use machine_lock::{Naming, Shared};
+use program_order::Note;
 use signals::Waiting;
 use std::sync::Wait;
 

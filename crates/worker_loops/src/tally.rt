@@ -2,7 +2,7 @@
 ghost use Rattle.std.specs.Prelude.{◌≡◌, true};
 ghost use Rattle.unit_queue.specs.Lanes.{is_closed};
 
-use instruction_table::Unit;
+use instructions::Unit;
 use machine::Seat;
 use std::snapshot::Snapshot as GhostCopy;
 use std::sync::Wait;

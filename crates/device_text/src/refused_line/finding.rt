@@ -6,7 +6,7 @@ use crate::digits::number;
 use crate::refused_line::fields::{count, end, field, position_from};
 use crate::refused_line::position::{Cause, Position};
 use crate::refused_line::texts::text_at_fault;
-use instruction_table::DeckFault;
+use instructions::DeckFault;
 
 /// The first words of lines with one field.
 const ALONE: [&str; 4] = ["end", "drain", "issue", "exchange"];

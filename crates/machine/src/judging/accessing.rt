@@ -3,8 +3,7 @@ ghost use Rattle.in_flight.specs.Tests.{refusal_in, refusal_of};
 ghost use Rattle.program_order.specs.Peripheral.{access_tests};
 
 use in_flight::InFlight;
-use instruction_table::Refusal;
-use instructions::MOST_ACCESSES;
+use instructions::{MOST_ACCESSES, Refusal};
 
 /// Judges whether a peripheral processor may access the word at an absolute address.
 ///

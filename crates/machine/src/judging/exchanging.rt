@@ -3,8 +3,7 @@ ghost use Rattle.in_flight.specs.Tests.{refusal_in, refusal_of};
 ghost use Rattle.program_order.specs.Exchange.{ask_tests, exchange_tests};
 
 use in_flight::InFlight;
-use instruction_table::Refusal;
-use instructions::MOST_REQUESTS;
+use instructions::{MOST_REQUESTS, Refusal};
 use relocation::package_fits;
 use sequential::State;
 

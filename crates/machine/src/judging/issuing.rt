@@ -5,7 +5,7 @@ ghost use Rattle.in_flight.specs.Tests.{refusal_of, reservation_tests};
 ghost use Rattle.program_order.specs.Issue.{issue_tests};
 
 use in_flight::InFlight;
-use instruction_table::Refusal;
+use instructions::Refusal;
 use relocation::relocate;
 use sequential::{Fetched, State};
 

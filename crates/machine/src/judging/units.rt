@@ -6,7 +6,7 @@ ghost use Rattle.instructions.specs.Finding.{seek};
 ghost use Rattle.program_order.specs.Units.{finish_tests};
 
 use in_flight::{InFlight, Located, Pending, Stage};
-use instruction_table::{Refusal, Unit};
+use instructions::{Refusal, Unit};
 use unit_ops::Operands;
 
 /// Judges whether the unit may finish. If so, returns its instruction and its operands.

@@ -7,7 +7,7 @@ ghost use Rattle.program_order.specs.Run.{answer_of};
 use crate::judging::{judge_access, judge_ask, judge_exchange, judge_finish, judge_issue};
 use crate::processor::made;
 use crate::{Answer, Done, Event, Machine, Note};
-use instruction_table::Refusal;
+use instructions::Refusal;
 use sequential::Fetched;
 
 impl Machine {

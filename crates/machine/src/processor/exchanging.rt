@@ -7,7 +7,7 @@ use crate::changing::exchange;
 use crate::judging::{judge_ask, judge_exchange};
 use crate::processor::made;
 use crate::{Answer, Done, Machine};
-use instruction_table::Refusal;
+use instructions::Refusal;
 use relocation::PACKAGE_WORDS;
 
 /// The log entries that a request reserves: one for an instruction, one for the exchange and one for an instruction

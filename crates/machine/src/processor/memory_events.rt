@@ -6,7 +6,7 @@ ghost use Rattle.machine.specs.OneEvent.{IsEvent};
 use crate::changing::perform;
 use crate::processor::made;
 use crate::{Answer, Machine};
-use instruction_table::Reg;
+use instructions::Reg;
 
 impl Machine {
     /// Accepts the reference in a place of the hopper, 0 to 3, and makes its bank busy: the event `Accept`.

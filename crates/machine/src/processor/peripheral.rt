@@ -7,7 +7,7 @@ use crate::changing::perform;
 use crate::judging::judge_access;
 use crate::{Answer, Done, Machine};
 use hopper::Reference;
-use instruction_table::Refusal;
+use instructions::Refusal;
 use relocation::Access;
 use word60::Word60;
 

@@ -11,7 +11,7 @@ use crate::judging::judge_finish;
 use crate::processor::made;
 use crate::{Answer, Machine};
 use in_flight::{Located, Relocated, Stage};
-use instruction_table::{Refusal, Unit};
+use instructions::{Refusal, Unit};
 use sequential::Work;
 use unit_ops::value;
 
