@@ -1,5 +1,5 @@
 -- The effect of reading a line on the reading of a deck.
-use Rattle.std.proofs.Common.{◌≡◌, ℕ, ◌+◌, ◌<◌, ◌≤◌, true, false, cond, ltb, List, [], ◌∷◌, length, Option, None}
+use Rattle.std.proofs.Common.{◌≡◌, ℕ, ◌+◌, ◌<◌, ◌≤◌, true, false, ltb, List, [], ◌∷◌, length, Option, None}
 use Rattle.std.proofs.Common.{Some, Ok, Result, refl}
 use Rattle.std.proofs.Common.{sym, inl, inr, Err}
 use Rattle.std.proofs.Common.{ap, ◌∙◌, ◌++◌, drop, subst, arith}
@@ -11,7 +11,7 @@ use Rattle.device_text.specs.declared.line.LineRead.TheVariants.{Whole, Long}
 use Rattle.device_text.proofs.Moving.{Moves-refl, Moves-weaker, Moves-trans}
 use Rattle.deck.specs.Deck.{Ends, Good, Bad, deck, goes_on, read_from, read_on}
 use Rattle.deck.specs.Deck.{applied_first, applied_line}
-use Rattle.std.specs.Prelude.{MatchResult, IfOk, IfErr}
+use Rattle.std.specs.Prelude.{MatchResult, IfOk}
 use Rattle.deck.specs.Reading.{HasNoLine, Refuses, GivesNoDeck}
 use Rattle.deck.specs.declared.deck.Draft.{Draft}
 use Rattle.deck.specs.declared.deck.Deck.{Deck}
@@ -26,12 +26,7 @@ pub numbered : {T : Type 0} (found : Result T DeckFault) (told : Result T Refusa
     → MatchResult found (λ x. told ≡ Ok x) (λ fault. told ≡ Err (refusals.Deck n fault))
     → told ≡ Err refusal → (fault : DeckFault) × (found ≡ Err fault) × (refusal ≡ refusals.Deck n fault)
 numbered (Ok x) told n refusal m h = cc
-numbered (Err fault) told n refusal m h = (
-  fault,
-  refl,
-  subst (λ r. IfErr r (λ e. e ≡ refusals.Deck n fault)) h
-      (subst (λ r. IfErr r (λ e. e ≡ refusals.Deck n fault)) (sym m) refl),
-)
+numbered (Err fault) told n refusal m h = grind arith
 
 -- a success, after the step that adds line numbers to faults
 pub unrefused : {T : Type 0} (found : Result T DeckFault) (told : Result T Refusal) (n : ℕ) (x : T)
@@ -83,10 +78,7 @@ fault_there : (n : ℕ) (d : Option Draft) (fault : DeckFault) (xs ys : List ℕ
     → n ≤ 10000000 → HasNoLine fault xs ys lines → read_from n d xs lines ≡ Bad n fault ys
 fault_there n d fault xs ys [] low h =
     let within : ltb 10000000 n ≡ false = le-ltb _ _ low in rw (within, h.0, h.1) refl
-fault_there n d fault xs ys (line ∷ more) low h =
-    let within : ltb 10000000 n ≡ false = le-ltb _ _ low in
-    let long : ltb 200 (length line.0) ≡ true = lt-ltb _ _ h.1 in
-    rw (within, long, h.0, h.2) refl
+fault_there n d fault xs ys (line ∷ more) low h = grind arith
 
 refused_there : (n : ℕ) (d : Option Draft) (e : Refusal) (xs ys : List ℕ) (lines : List (List ℕ × List ℕ))
     → n ≤ 10000000
@@ -105,27 +97,12 @@ line_refused a b c n d e low told m =
 reading_after_a_line : (n : ℕ) (d : Option Draft) (text xs ys zs : List ℕ) → n ≤ 10000000 → length text ≤ 200
     → ReadsOn n d xs ys → Taken text ys zs
     → deck xs ≡ read_on n (applied_line d text) zs (λ s. read_from (n + 1) (Some s) zs (lines_of zs))
-reading_after_a_line n d text xs ys zs low short p q =
-    let within : ltb 10000000 n ≡ false = le-ltb _ _ low in
-    p ∙ ap (read_from n d ys) q
-    ∙ ap (λ b. cond b (Bad n faults.Lines ys)
-    (read_on n (applied_line d text) (left_after ys (text, zs))
-    (λ s. read_from (n + 1) (Some s) zs (lines_of zs)))) within
-    ∙ ap (λ rest. read_on n (applied_line d text) rest (λ s. read_from (n + 1) (Some s) zs (lines_of zs)))
-    (left_short text ys zs short)
+reading_after_a_line n d text xs ys zs low short p q = search (arith, left_short, le-ltb)
 
 pub line_fault : (a b c : Option (List ℕ)) (n : ℕ) (d : Option Draft) (text : List ℕ) (fault : DeckFault)
     → n ≤ 10000000 → length text ≤ 200 → Moves a b (ReadsOn n d) → Moves b c (Taken text)
     → applied_line d text ≡ Err fault → Moves a c (λ xs ys. GivesNoDeck (refusals.Deck n fault) (deck xs) ys)
-line_fault a b c n d text fault low short told m h =
-    Moves-trans a b c (ReadsOn n d) (Taken text) (λ xs ys. GivesNoDeck (refusals.Deck n fault) (deck xs) ys)
-    (λ xs ys zs p q. inl (
-      n,
-      fault,
-      refl,
-      reading_after_a_line n d text xs ys zs low short p q
-          ∙ ap (λ j. read_on n j zs (λ s. read_from (n + 1) (Some s) zs (lines_of zs))) h,
-    )) told m
+line_fault a b c n d text fault low short told m h = search (arith, reading_after_a_line)
 
 pub line_goes : (a b c : Option (List ℕ)) (n : ℕ) (d : Option Draft) (text : List ℕ) (next : Draft) → n ≤ 10000000
     → length text ≤ 200 → Moves a b (ReadsOn n d) → Moves b c (Taken text)
@@ -150,14 +127,7 @@ all_read n d bytes (line ∷ more) h = let past : ltb 10000000 n ≡ true = lt-l
 
 pub lines_over : (a b : Option (List ℕ)) (n : ℕ) (d : Option Draft) → n ≡ 10000001 → Moves a b (ReadsOn n d)
     → Moves a b (λ xs ys. GivesNoDeck (refusals.Deck 10000001 faults.Lines) (deck xs) ys)
-lines_over a b n d e told =
-    Moves-weaker a b (ReadsOn n d) (λ xs ys. GivesNoDeck (refusals.Deck 10000001 faults.Lines) (deck xs) ys)
-    (λ xs ys p. inl (
-      10000001,
-      faults.Lines,
-      refl,
-      p ∙ all_read n d ys (lines_of ys) (omega arith) ∙ ap (λ m. Bad m faults.Lines ys) e,
-    )) told
+lines_over a b n d e told = grind (arith, all_read)
 
 -- the first line, if it isn't too long
 first_applied : (text : List ℕ) → length text ≤ 200 → applied_line None text ≡ applied_first text

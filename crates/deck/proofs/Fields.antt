@@ -1,5 +1,5 @@
 -- Lines with too many fields.
-use Rattle.std.proofs.Common.{◌≡◌, ℕ, true, false, cond, eqb, List, [], ◌∷◌, refl}
+use Rattle.std.proofs.Common.{◌≡◌, ℕ, List, [], ◌∷◌, refl, arith}
 use Rattle.std.specs.List.{onto_first}
 use Rattle.device_text.specs.Text.{fields_of}
 use Rattle.deck.specs.Deck.{parsed_fields}
@@ -13,6 +13,4 @@ too_many_onto w a b d x (part ∷ parts) = refl
 -- a line with five or more fields is `Unknown`
 pub too_many : (w a b d rest : List ℕ) → parsed_fields (w ∷ a ∷ b ∷ d ∷ fields_of rest) ≡ Unknown
 too_many w a b d [] = refl
-too_many w a b d (x ∷ xs) =
-    elim (eqb x 32) as (λ v. parsed_fields (w ∷ a ∷ b ∷ d ∷ cond v ([] ∷ fields_of xs) (onto_first x (fields_of xs)))
-    ≡ Unknown) [ true ↦ refl | false ↦ too_many_onto w a b d x (fields_of xs) ]
+too_many w a b d (x ∷ xs) = grind arith

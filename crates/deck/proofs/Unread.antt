@@ -1,5 +1,5 @@
 -- The number of bytes after a deck that was read only in part.
-use Rattle.std.proofs.Common.{◌≡◌, ◌≢◌, ℕ, suc, ◌+◌, ◌≤◌, true, false, cond, eqb, Bool, ltb, List, [], ◌∷◌}
+use Rattle.std.proofs.Common.{◌≡◌, ◌≢◌, ℕ, ◌+◌, ◌≤◌, true, false, cond, Bool, ltb, List, [], ◌∷◌}
 use Rattle.std.proofs.Common.{◌++◌, length, drop, Option, None, Some, Ok, Err, sym, subst, arith}
 use Rattle.std.proofs.Common.{inl, inr, ap, ◌∙◌}
 use Rattle.std.proofs.lemmas.Bool.{ne_eqb}
@@ -31,12 +31,7 @@ after_onto k b (line ∷ lines) h = h
 
 after_lines : (ys : List ℕ) → Behind (length ys) (lines_of ys)
 after_lines [] = tt
-after_lines (b ∷ ys) =
-    let more = after_more (length ys) (suc (length ys)) (lines_of ys) (omega arith) (after_lines ys) in
-    elim (eqb b 10) as (λ v. Behind (suc (length ys)) (cond v (([], ys) ∷ lines_of ys) (onto b (lines_of ys)))) [
-      | true ↦ (omega arith, more)
-      | false ↦ after_onto (suc (length ys)) b (lines_of ys) more
-    ]
+after_lines (b ∷ ys) = grind (arith, after_lines ys, after_more, after_onto)
 
 after_part : (part ys : List ℕ) → IsText part → Behind (length ys) (lines_of (part ++ ys))
 after_part [] ys h = after_lines ys
@@ -87,10 +82,7 @@ pub line_cut : (a b c : Option (List ℕ)) (n : ℕ) (d : Option Draft) (e : Ref
 line_cut None b c n d e told m part h = tt
 line_cut (Some xs) None c n d e told m part h = absurd told
 line_cut (Some xs) (Some ys) None n d e told m part h = absurd m
-line_cut (Some xs) (Some ys) (Some zs) n d e told m part h =
-    let q = part (failed_read n e ys zs m h) in
-    subst (EndsWithin (length zs)) (sym told)
-    (from_within (length zs) n d ys (lines_of ys) (rw q.2 (after_part q.0 zs q.1)))
+line_cut (Some xs) (Some ys) (Some zs) n d e told m part h = grind (arith, failed_read, from_within, after_part)
 
 pub line_taken : (a b c : Option (List ℕ)) (n : ℕ) (d : Option Draft) (text : List ℕ) → Moves a b (ReadsOn n d)
     → Moves b c (Taken text) → Moves a c Unread

@@ -1,12 +1,12 @@
 -- Which request an exchange belongs to: a request that is due, if the exchanges begin with those of all due requests,
 -- and otherwise a request at any time.
 use Rattle.std.proofs.Common.{◌≡◌, ◌⊎◌, inl, inr, ◌<◌, ◌≤◌, ◌+◌, ℕ, Bool, true, false, cond, not, ◌&&◌, ◌||◌, length}
-use Rattle.std.proofs.Common.{List, [], ◌∷◌, refl, sym, ap, subst, ◌∙◌, arith, ltb-true, leb-true, le-leb}
+use Rattle.std.proofs.Common.{List, [], ◌∷◌, refl, sym, ap, subst, ◌∙◌, arith, leb-true, le-leb}
 use Rattle.std.proofs.lemmas.Bool.{lt-ltb}
 use Rattle.std.proofs.lemmas.Bool.{eqb-true, eq-eqb, leb-false}
-use Rattle.std.specs.Prelude.{drop, nat_eq, nat_le, nat_lt}
+use Rattle.std.specs.Prelude.{drop, nat_eq, nat_le}
 use Rattle.sequential_run.specs.Fulfilled.{is_in_time, is_next_ask, is_next_free, are_done, fulfils}
-use Rattle.sequential_run.specs.inner.Judging.{starts_with_due, is_made, is_of_ask, AreWithin}
+use Rattle.sequential_run.specs.inner.Judging.{starts_with_due, is_of_ask, AreWithin}
 
 -- ---- tests ----
 
@@ -27,31 +27,19 @@ pair_is p a b e f = rw (sym e, sym f) refl
 -- an exchange before the request's own comes too early
 late : (now then : ℕ) (ask : ℕ × ℕ) (asks : List (ℕ × ℕ)) → ask.1 ≤ now → is_in_time now then (ask ∷ asks) ≡ false
 unfolding is_in_time
-late now then ask asks d = by_test (nat_lt now ask.1) refl
-  where
-    by_test : (b : Bool) → nat_lt now ask.1 ≡ b → (b && nat_le then (ask.1 + 3)) ≡ false
-    by_test false e = refl
-    by_test true e = let l = ltb-true now ask.1 e in absurd (omega (arith, d, l))
+late now then ask asks d = grind arith
 
 left_over : (total : ℕ) (ask : ℕ × ℕ) (asks : List (ℕ × ℕ)) (free : List ℕ) → ask.1 ≤ total
     → are_done total (ask ∷ asks) free ≡ false
 unfolding are_done
 left_over total ask asks (at ∷ free) d = refl
-left_over total ask asks [] d = by_test (nat_lt total ask.1) refl
-  where
-    by_test : (b : Bool) → nat_lt total ask.1 ≡ b → b ≡ false
-    by_test false e = refl
-    by_test true e = let l = ltb-true total ask.1 e in absurd (omega (arith, d, l))
+left_over total ask asks [] d = grind arith
 
 not_free : (now : ℕ) (made ask : ℕ × ℕ) (asks : List (ℕ × ℕ)) (free : List ℕ) → ask.1 ≤ now
     → is_next_free now made (ask ∷ asks) free ≡ false
 unfolding is_next_free
 not_free now made ask asks [] d = refl
-not_free now made ask asks (at ∷ free) d = by_test (nat_eq made.0 at)
-  where
-    by_test : (b : Bool) → (b && is_in_time now made.1 (ask ∷ asks)) ≡ false
-    by_test false = refl
-    by_test true = late now made.1 ask asks d
+not_free now made ask asks (at ∷ free) d = grind (arith, late)
 
 -- facts about an exchange that belongs to the next request after a number of instructions
 record OfAsk (last : ℕ) (made ask : ℕ × ℕ) (asks : List (ℕ × ℕ)) : Type 0 where
@@ -62,17 +50,10 @@ record OfAsk (last : ℕ) (made ask : ℕ × ℕ) (asks : List (ℕ × ℕ)) : T
 of_ask : (last : ℕ) (made ask : ℕ × ℕ) (asks : List (ℕ × ℕ)) → is_next_ask last made (ask ∷ asks) ≡ true
     → OfAsk last made ask asks
 unfolding is_next_ask
-of_ask last made ask asks e =
-    let a = both (nat_eq made.0 ask.0) _ e in
-    let b = both (nat_le ask.1 made.1) _ a.1 in
-    record { at = eqb-true made.0 ask.0 a.0; due = leb-true ask.1 made.1 b.0; in_time = b.1 }
+of_ask last made ask asks e = grind arith
 
 at_once : (now : ℕ) (made ask : ℕ × ℕ) (asks : List (ℕ × ℕ)) → ask.1 ≤ now → OfAsk now made ask asks → made.1 ≡ now
-at_once now made ask asks d o = by_case (either (nat_eq made.1 now) _ o.in_time)
-  where
-    by_case : (nat_eq made.1 now ≡ true) ⊎ (is_in_time now made.1 (ask ∷ asks) ≡ true) → made.1 ≡ now
-    by_case (inl e) = eqb-true made.1 now e
-    by_case (inr e) = let n = late now made.1 ask asks d in absurd (cc)
+at_once now made ask asks d o = grind (arith, either, late, eqb-true)
 
 -- the next exchange belongs to the due request, with no instruction between
 record Forced (m : Bool) (total now : ℕ) (ask : ℕ × ℕ) (asks : List (ℕ × ℕ)) (free : List ℕ) (made : List (ℕ × ℕ))
@@ -85,12 +66,7 @@ forced : (m : Bool) (total now : ℕ) (ask : ℕ × ℕ) (asks : List (ℕ × �
     → ask.1 ≤ now → now ≤ total → fulfils m total now (ask ∷ asks) free made ≡ true
     → Forced m total now ask asks free made
 unfolding fulfils
-forced m total now ask asks free [] d w e = by_case (either (are_done total (ask ∷ asks) free) _ e)
-  where
-    by_case : (are_done total (ask ∷ asks) free ≡ true) ⊎ ((m && is_in_time now total (ask ∷ asks)) ≡ true)
-        → Forced m total now ask asks free []
-    by_case (inl h) = let n = left_over total ask asks free (omega (arith, d, w)) in absurd (cc)
-    by_case (inr h) = let n = late now total ask asks d in let p = both m _ h in let q = p.1 in absurd (cc)
+forced m total now ask asks free [] d w e = grind (arith, either, left_over, late, both)
 forced m total now ask asks free (made ∷ more) d w e =
     by_case (either (is_next_ask now made (ask ∷ asks) && fulfils m total made.1 asks free more) _ e)
   where
@@ -152,13 +128,7 @@ free_on : (m : Bool) (total now at : ℕ) (asks : List (ℕ × ℕ)) (free : Lis
     → is_in_time now now asks ≡ true → fulfils m total now asks free made ≡ true
     → fulfils m total now asks (at ∷ free) ((at, now) ∷ made) ≡ true
 unfolding fulfils is_next_free
-free_on m total now at asks free made t e =
-    rw (eq-eqb at at refl, t, e) (or_true (is_next_ask now (at, now) asks
-    && fulfils m total now (drop 1 asks) (at ∷ free) made))
-  where
-    or_true : (b : Bool) → (b || true) ≡ true
-    or_true true = refl
-    or_true false = refl
+free_on m total now at asks free made t e = grind arith
 
 -- an exchange for a request that is due
 ask_on : (m : Bool) (total now : ℕ) (ask : ℕ × ℕ) (asks : List (ℕ × ℕ)) (free : List ℕ) (made : List (ℕ × ℕ))
@@ -182,11 +152,7 @@ record StartsOn (now : ℕ) (made ask : ℕ × ℕ) (asks more : List (ℕ × �
 starts : (now : ℕ) (made ask : ℕ × ℕ) (asks more : List (ℕ × ℕ)) → nat_le ask.1 now ≡ true
     → starts_with_due now (ask ∷ asks) (made ∷ more) ≡ true → StartsOn now made ask asks more
 unfolding starts_with_due
-starts now made ask asks more d e =
-    let a = both (is_made now ask made) _ (sym (ap (λ b. cond b (is_made now ask made && starts_with_due now asks more)
-    true) d) ∙ e) in
-    let b = both (nat_eq made.0 ask.0) _ a.0 in
-    record { at = eqb-true made.0 ask.0 b.0; others = a.1 }
+starts now made ask asks more d e = grind arith
 
 shift_on : (m : Bool) (total now at : ℕ) (ask : ℕ × ℕ) (asks : List (ℕ × ℕ)) (free : List ℕ) (made : List (ℕ × ℕ))
     → now ≤ total → starts_with_due now (ask ∷ asks) ((at, now) ∷ made) ≡ true
@@ -247,10 +213,7 @@ pub ask_taken : (m : Bool) (total last : ℕ) (made : ℕ × ℕ) (asks : List (
     → fulfils m total last asks free (made ∷ more) ≡ fulfils m total made.1 (drop 1 asks) free more
 unfolding fulfils is_next_ask
 ask_taken m total last made [] free more w e = cc
-ask_taken m total last made (ask ∷ asks) free more w e =
-    let p = both (is_next_ask last made (ask ∷ asks)) _ e in
-    taken_by (is_next_ask last made (ask ∷ asks)) (fulfils m total made.1 asks free more) _ p.0
-    (free_too m total last made ask asks free more w (of_ask last made ask asks p.0) p.1)
+ask_taken m total last made (ask ∷ asks) free more w e = grind (arith, both, taken_by, free_too, of_ask)
 
 -- the exchange can't belong to that request
 not_taken : (m : Bool) (total last : ℕ) (made : ℕ × ℕ) (asks : List (ℕ × ℕ)) (free : List ℕ) (more : List (ℕ × ℕ))
@@ -258,19 +221,7 @@ not_taken : (m : Bool) (total last : ℕ) (made : ℕ × ℕ) (asks : List (ℕ 
     → (is_next_ask last made asks && fulfils m total made.1 (drop 1 asks) free more) ≡ false
 unfolding is_next_ask
 not_taken m total last made [] free more w e = refl
-not_taken m total last made (ask ∷ asks) free more w e =
-    by_test (is_next_ask last made (ask ∷ asks) && fulfils m total made.1 asks free more) refl
-  where
-    by_test : (b : Bool) → (is_next_ask last made (ask ∷ asks) && fulfils m total made.1 asks free more) ≡ b
-        → b ≡ false
-    by_test false t = refl
-    by_test true t =
-        let p = both (is_next_ask last made (ask ∷ asks)) _ t in
-        let o = of_ask last made ask asks p.0 in
-        let s = starts_on made.1 ask made asks more o.due o.at refl
-        ∙ due_next m total made.1 asks free more w p.1 in
-        let k : is_of_ask last (ask ∷ asks) (made ∷ more) ≡ true = rw (p.0, s) refl in
-        sym k ∙ e
+not_taken m total last made (ask ∷ asks) free more w e = grind (arith, both, of_ask, starts_on, due_next)
 
 -- the exchange was made for the next request at any time
 pub free_taken : (m : Bool) (total last : ℕ) (made : ℕ × ℕ) (asks : List (ℕ × ℕ)) (free : List ℕ)
@@ -293,11 +244,7 @@ none_taken m total last made asks free more w e f = rw (not_taken m total last m
 pub some_ask : (last : ℕ) (made : ℕ × ℕ) (asks left more : List (ℕ × ℕ)) → left ≡ made ∷ more
     → is_of_ask last asks left ≡ true → 0 < length asks
 unfolding is_next_ask
-some_ask last made asks left more e t = by_asks asks (subst (λ l. is_of_ask last asks l ≡ true) e t)
-  where
-    by_asks : (asks : List (ℕ × ℕ)) → is_of_ask last asks (made ∷ more) ≡ true → 0 < length asks
-    by_asks [] t = cc
-    by_asks (ask ∷ asks) t = omega arith
+some_ask last made asks left more e t = grind arith
 
 pub some_free : (last : ℕ) (made : ℕ × ℕ) (asks : List (ℕ × ℕ)) (free : List ℕ)
     → is_next_free last made asks free ≡ true → 0 < length free
@@ -311,24 +258,14 @@ pub given : (m : Bool) (total last : ℕ) (made : ℕ × ℕ) (asks : List (ℕ 
     → is_ask ≡ is_of_ask last asks left → (is_ask ≡ false → is_next_free last made asks free ≡ true)
     → fulfils m total last asks free left ≡ all
     → fulfils m total made.1 (cond is_ask (drop 1 asks) asks) (cond (not is_ask) (drop 1 free) free) more ≡ all
-given m total last made asks free left more all is_ask e w t f h =
-    by_test is_ask (subst (λ l. AreWithin total l) e w).0 (t ∙ ap (is_of_ask last asks) e) f
-    (ap (fulfils m total last asks free) (sym e) ∙ h)
-  where
-    by_test : (b : Bool) → made.1 ≤ total → b ≡ is_of_ask last asks (made ∷ more)
-        → (b ≡ false → is_next_free last made asks free ≡ true) → fulfils m total last asks free (made ∷ more) ≡ all
-        → fulfils m total made.1 (cond b (drop 1 asks) asks) (cond (not b) (drop 1 free) free) more ≡ all
-    by_test true w t f h = sym (ask_taken m total last made asks free more w (sym t)) ∙ h
-    by_test false w t f h = sym (free_taken m total last made asks free more w (sym t) (f refl)) ∙ h
+given m total last made asks free left more all is_ask e w t f h = grind (arith, ask_taken, free_taken)
 
 -- an exchange without a request
 pub not_given : (m : Bool) (total last : ℕ) (made : ℕ × ℕ) (asks : List (ℕ × ℕ)) (free : List ℕ)
     (left more : List (ℕ × ℕ)) (all : Bool) → left ≡ made ∷ more → AreWithin total left
     → is_of_ask last asks left ≡ false → is_next_free last made asks free ≡ false
     → fulfils m total last asks free left ≡ all → false ≡ all
-not_given m total last made asks free left more all e w t f h =
-    sym (none_taken m total last made asks free more (subst (λ l. AreWithin total l) e w).0
-    (ap (is_of_ask last asks) (sym e) ∙ t) f) ∙ ap (fulfils m total last asks free) (sym e) ∙ h
+not_given m total last made asks free left more all e w t f h = grind (arith, none_taken)
 
 pub within_rest : (total : ℕ) (made : ℕ × ℕ) (left more : List (ℕ × ℕ)) → left ≡ made ∷ more → AreWithin total left
     → AreWithin total more

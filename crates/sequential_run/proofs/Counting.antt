@@ -28,10 +28,7 @@ pub exchanges_append : (n : ℕ) (xs ys : List LogStep)
     → exchanges_after n (xs ++ ys) ≡ exchanges_after n xs ++ exchanges_after (n + issued xs) ys
 unfolding exchanges_after issued
 exchanges_append n [] ys = ap (λ k. exchanges_after k ys) (let e : n ≡ n + 0 = omega arith in e)
-exchanges_append n (Issued ∷ xs) ys =
-    exchanges_append (suc n) xs ys
-    ∙ ap (λ k. exchanges_after (suc n) xs ++ exchanges_after k ys)
-    (let e : suc n + issued xs ≡ n + suc (issued xs) = omega arith in e)
+exchanges_append n (Issued ∷ xs) ys = grind (arith, exchanges_append (suc n) xs ys)
 exchanges_append n (Exchanged at ∷ xs) ys = ap (λ l. (at, n) ∷ l) (exchanges_append n xs ys)
 exchanges_append n (ReadAt a ∷ xs) ys = exchanges_append n xs ys
 exchanges_append n (Wrote a w ∷ xs) ys = exchanges_append n xs ys
@@ -87,6 +84,4 @@ all_within n (Wrote a w ∷ steps) = all_within n steps
 -- no exchange in a log comes after more instructions than the log's count
 pub log_within : (total : ℕ) (steps : List LogStep) (made : List (ℕ × ℕ)) → made ≡ exchanges_after 0 steps
     → total ≡ min (issued steps) (2 ^ 64 - 1) → issued steps < 2 ^ 64 → AreWithin total made
-log_within total steps made e t l =
-    let n : 0 + issued steps ≡ total = omega (arith, t, l) in
-    rw e (within_more (0 + issued steps) total (exchanges_after 0 steps) n (all_within 0 steps))
+log_within total steps made e t l = grind (arith, all_within 0 steps)

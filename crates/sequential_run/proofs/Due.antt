@@ -1,5 +1,5 @@
 -- The loop over the due requests.
-use Rattle.std.proofs.Common.{◌≡◌, ◌<◌, ◌≤◌, ◌+◌, ℕ, Bool, true, false, cond, ◌&&◌, List, [], ◌∷◌, length}
+use Rattle.std.proofs.Common.{◌≡◌, ◌<◌, ◌≤◌, ◌+◌, ℕ, Bool, true, false, List, [], ◌∷◌, length}
 use Rattle.std.proofs.Common.{refl, sym, ap, ◌∙◌, arith, le-leb, subst}
 use Rattle.std.proofs.lemmas.Bool.{lt-leb}
 use Rattle.std.proofs.Common.{drop_of_length-le}
@@ -22,16 +22,12 @@ not_made now ask asks (x ∷ more) d n = absurd (omega (arith, n))
 another_made : (now : ℕ) (ask made : ℕ × ℕ) (asks more : List (ℕ × ℕ)) → ask.1 ≤ now → is_made now ask made ≡ false
     → starts_with_due now (ask ∷ asks) (made ∷ more) ≡ false
 unfolding starts_with_due
-another_made now ask made asks more d e =
-    ap (λ b. cond b (is_made now ask made && starts_with_due now asks more) true) (le-leb ask.1 now d)
-    ∙ ap (λ b. b && starts_with_due now asks more) e
+another_made now ask made asks more d e = grind arith
 
 this_made : (now : ℕ) (ask made : ℕ × ℕ) (asks more : List (ℕ × ℕ)) → ask.1 ≤ now → is_made now ask made ≡ true
     → starts_with_due now (ask ∷ asks) (made ∷ more) ≡ starts_with_due now asks more
 unfolding starts_with_due
-this_made now ask made asks more d e =
-    ap (λ b. cond b (is_made now ask made && starts_with_due now asks more) true) (le-leb ask.1 now d)
-    ∙ ap (λ b. b && starts_with_due now asks more) e
+this_made now ask made asks more d e = grind arith
 
 -- the request at this position of the list
 abbrev request_at : List (ℕ × ℕ) → ℕ → ℕ × ℕ

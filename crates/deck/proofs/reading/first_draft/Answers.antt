@@ -1,3 +1,4 @@
+use Rattle.std.proofs.lemmas.Grind.{common_steps}
 use Rattle.std.proofs.Common.{None, Err, arith, refl}
 use Rattle.std.proofs.lemmas.Result.{err_from_is_err_and}
 use Rattle.deck.proofs.DeckLines.{numbered, read_nothing, line_refused, first_fault}
@@ -6,9 +7,8 @@ use Rattle.deck.proofs.reading.first_draft.Goals as goal
 
 pub returns-in_err-next_line-clause-refused : goal.returns-in_err-next_line-clause-refused
 returns-in_err-next_line-clause-refused g c =
-    let p = err_from_is_err_and c.from_residual.result c.from_residual.ensures.1 in
-    rw (p.1, p.2) (line_refused _ _ (g.I.Input.remaining c.next_line.new.input) 1 None _ (omega arith)
-    (read_nothing (g.I.Input.remaining c.args.input.now)) c.in_err-next_line.ensures.err)
+    grind (arith, common_steps, line_refused, read_nothing, c.from_residual.ensures.1,
+    c.in_err-next_line.ensures.err)
 
 pub returns-in_err-next_line-clause-unread : goal.returns-in_err-next_line-clause-unread
 returns-in_err-next_line-clause-unread g c =

@@ -1,4 +1,5 @@
-use Rattle.std.proofs.Common.{◌≤◌, length, take, arith, rules, length-take}
+use Rattle.std.proofs.lemmas.Grind.{common_steps}
+use Rattle.std.proofs.Common.{arith, rules}
 use Rattle.device_text.proofs.Numbers.{room_at, digits_on, value_on, value_below}
 use Rattle.device_text.proofs.digits.number.Goals as goal
 
@@ -30,6 +31,5 @@ loop-byte-preserved c =
 
 pub returns-clause-below : goal.returns-clause-below
 returns-clause-below c =
-    let short : length (take c.loop-byte.byte-index c.args.text.now) ≤ c.args.most = simp length-take (omega arith) in
-    value_below c.args.base c.args.most c.loop-byte.value (take c.loop-byte.byte-index c.args.text.now) c.requires.low
-    short c.loop-byte.invariant.digits c.loop-byte.invariant.value
+    grind (arith, common_steps, value_below, c.requires.low, c.loop-byte.invariant.digits,
+    c.loop-byte.invariant.value)

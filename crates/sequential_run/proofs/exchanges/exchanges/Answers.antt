@@ -1,4 +1,4 @@
-use Rattle.std.proofs.Common.{refl, sym, ◌∙◌, ◌+◌, arith}
+use Rattle.std.proofs.Common.{refl, sym, ◌∙◌, arith}
 use Rattle.sequential.specs.Log.{issued, steps_of}
 use Rattle.sequential_run.specs.Fulfilled.{exchanges_after}
 use Rattle.sequential_run.proofs.Counting.{exchanges_more, count_more, count_within}
@@ -9,15 +9,7 @@ unfolding steps_of issued exchanges_after
 loop-entry-init c = record { made = c.new-made.ensures.items; count = refl }
 
 pub add-requires : goal.add-requires
-add-requires c = record {
-  count =
-      let i = c.loop-entry.entry-index in
-      let now = c.loop-entry.invariant.count in
-      let more = count_more c.args.entries.now i c.entry-item.result c.loop-entry-test.true in
-      let within = count_within c.args.entries.now (i + 1) in
-      let all = c.requires.count in
-      rw c.entry-item.is (omega (arith, now, more, within, all));
-}
+add-requires c = grind (arith, count_more, count_within)
 
 pub loop-entry-preserved : goal.loop-entry-preserved
 loop-entry-preserved c = record {

@@ -1,4 +1,4 @@
-use Rattle.std.proofs.Common.{rules}
+use Rattle.std.proofs.Common.{rules, arith}
 use Rattle.sequential_run.proofs.Choosing.{some_ask, some_free, given, not_given, within_rest}
 use Rattle.sequential_run.proofs.fulfilling.are_given.Goals.{else-not-is_ask-via-then-not-is_ask+else-not-is_next_free}
 use Rattle.sequential_run.proofs.fulfilling.are_given.Goals.{else-not-is_ask-via-else-not-is_ask}
@@ -14,11 +14,7 @@ left_of-asks-requires c = λ t. some_ask c.loop-made.last c.in-Some.made.now c.l
     c.in-Some.more.now (search rules) (search rules)
 
 pub left_of-free-requires : goal.left_of-free-requires
-left_of-free-requires c = λ t. some_free c.loop-made.last c.in-Some.made.now c.loop-made.asks.now
-    c.loop-made.free.now (elim c.else-not-is_ask.branch [
-      | else-not-is_ask-via-then-not-is_ask+else-not-is_next_free w ↦ search rules
-      | else-not-is_ask-via-else-not-is_ask w ↦ search rules
-    ])
+left_of-free-requires c = grind (arith, some_free)
 
 pub loop-made-preserved : goal.loop-made-preserved
 loop-made-preserved c = record {

@@ -1,18 +1,10 @@
-use Rattle.std.proofs.Common.{take, ◌+◌, drop, sym, rules, take-append-drop}
+use Rattle.std.proofs.Common.{take, ◌+◌, drop, sym, take-append-drop, arith}
 use Rattle.std.proofs.KnownBytes.{Appends-kept}
 use Rattle.device_text.proofs.Moving.{written}
 use Rattle.device_text.proofs.output.CheckedWriterOutput.put.Goals as goal
 
 pub loop-written-preserved : goal.loop-written-preserved
-loop-written-preserved g c =
-    record {
-      bound = search rules;
-      told = written _ _ (g.W.Write.contents c.write.new.self) c.args.bytes.now c.loop-written.written c.in-Ok.count
-          c.loop-written.invariant.told c.in-Ok.ensures.bytes;
-      lender = search rules;
-      same = search rules;
-      waiting = search rules;
-    }
+loop-written-preserved g c = grind (arith, written)
 
 pub returns-in-Ok-eq0-clause-written : goal.returns-in-Ok-eq0-clause-written
 returns-in-Ok-eq0-clause-written g c =
