@@ -73,7 +73,7 @@ use Rattle.in_flight.proofs.answering.Boarding.{turn_of_all}
 use Rattle.in_flight.proofs.answering.Boarding.{return_of_all, read_follows, stage_follows, return_follows}
 use Rattle.in_flight.proofs.answering.Boarding.{issue_follows, same_free, same_awaited}
 
--- ---- the one that was found ----
+-- ---- the found instruction ----
 
 pub there : {K : Type 0} (o : Option (Found Pending K)) (s : Located K) → located o ≡ Some s → (f : Found Pending K)
     × (o ≡ Some f) × (f.item ≡ s.pending) × (f.answer ≡ s.answer)
@@ -108,7 +108,7 @@ unfolding has_none is_pending
 nothing_pending [] = refl
 nothing_pending (m ∷ ms) = refl
 
--- ---- what the board sees of them ----
+-- ---- tests of the board and tests of the list ----
 
 no_branch : (reservation : Reservation) → reservation.occupancy ≡ Left None → board.is_branch reservation ≡ false
 unfolding board.is_branch is_reserved
@@ -196,7 +196,7 @@ unfolding delays_access
 access_delayed a ms queue standing tied =
     delayed_by board.has_turn (is_for a) (waits_in a) no_turn (waits_in_phase a) ms queue standing tied
 
--- ---- what waits in the hopper ----
+-- ---- the waiting references ----
 
 pub append-assoc : {K : Type 0} (xs ys zs : List K) → xs ++ (ys ++ zs) ≡ (xs ++ ys) ++ zs
 append-assoc [] ys zs = refl
@@ -223,7 +223,7 @@ pub waiting_one : (m : Pending) → waiting (m ∷ []) ≡ waiting_in m.phase
 unfolding waiting
 waiting_one m = append-nil (waiting_in m.phase)
 
--- replacing an instruction by one that waits for the same reference leaves the hopper's list as it is
+-- the hopper's list is unchanged if an instruction is replaced by another with the same reference
 pub waiting_same : {K : Type 0} (g : Pending → Option K) (ms : List Pending) (f : Found Pending K) (xs : List Pending)
     → seek g ms ≡ Some f → waiting xs ≡ waiting_in f.item.phase → waiting (put_back f xs) ≡ waiting ms
 waiting_same g ms f xs h e =
@@ -237,7 +237,7 @@ staged_waits u ms f t h =
     waiting_same (stage_at u) ms f (in_phase f.item (Before t) ∷ []) h
     (waiting_one (in_phase f.item (Before t)) ∙ sym (ap waiting_in q))
 
--- the numbers of the others, after an instruction was replaced
+-- a property of all instructions, after one was replaced
 pub each_put : {K : Type 0} (P : Pending → Type 0) (g : Pending → Option K) (ms : List Pending) (f : Found Pending K)
     (xs : List Pending) → seek g ms ≡ Some f → (P f.item → Each P xs) → Each P ms → Each P (put_back f xs)
 unfolding put_back

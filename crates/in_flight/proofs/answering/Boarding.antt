@@ -135,7 +135,7 @@ same_free kind ms =
     first_free_same (is_held reservation_of_issued (on_board ms)) (is_held reservation_of ms) (same_held ms) (units_of
     kind)
 
--- ---- the one that holds a unit ----
+-- ---- the instruction that holds a unit ----
 
 kept_nothing : (l : List Issued) (x : Issued) → kept_on (Left None) l x ≡ l
 unfolding kept_on
@@ -236,7 +236,7 @@ unit_found u ms =
     (λ m h. ap (λ b. cond b (Some m.instr) None) (unit_not_in u m.unit m.phase h))
     (λ m t h e. unit_on_in (same_unit m.unit u) m.phase t h e) ms
 
--- ---- what the board answers ----
+-- ---- the board's answers ----
 
 unless_same : (f g : Reg → Bool) (rs : List Reg) (k : Reg → Refusal) → ((r : Reg) → f r ≡ g r)
     → unless (list_any f rs) (k (first_such f rs)) ≡ unless (list_any g rs) (k (first_such g rs))
@@ -359,7 +359,7 @@ return_of_all n ms f h k =
     ap (return_answer n) (return_found n ms f h k)
     ∙ ap (λ b. unless b (ResultHeld (X n))) (same_to_be_read f.earlier (X n))
 
--- ---- what the board's calls follow ----
+-- ---- the list after the board's calls ----
 
 board_put : {K : Type 0} (f : Found Pending K) (xs : List Pending) → on_board (put_back f xs) ≡ on_board f.earlier
     ++ (on_board xs ++ on_board f.later)
@@ -385,7 +385,7 @@ read_follows u ms f os h =
     ∙ ap (λ l. on_board f.earlier ++ (l ++ on_board f.later)) (read_put f.item os)
     ∙ sym (unit_changed u ms f read h)
 
--- a list in which the changed instruction answers as before
+-- a list in which the board's part of the changed instruction is unchanged
 same_put : {K : Type 0} (g : Pending → Option K) (ms : List Pending) (f : Found Pending K) (xs : List Pending)
     → seek g ms ≡ Some f → on_board xs ≡ on_board (f.item ∷ []) → on_board (put_back f xs) ≡ on_board ms
 same_put g ms f xs h e =

@@ -404,9 +404,9 @@ accept_flight memory p ms ns queue after b f r l now ev tied h e el en eq =
       busy = set x.busy (bank_of r.address) true;
     }) ev
 
--- ---- what a unit's instruction leaves ----
+-- ---- the reference of an instruction that leaves a unit ----
 
--- if the reference waits, the hopper's lowest free place is that of the list
+-- the lowest free place of the hopper is the lowest free place in the list
 pub later_is : (ms : List Pending) (queue : Queue) (rest : Option Relocated) (l : Option Outstanding)
     → queue.entered ≡ waiting ms → l ≡ outstanding_of (unwrap_or (free_in queue.entered) 0) rest
     → l ≡ outstanding_of (unwrap_or (place_for ms) 0) rest

@@ -38,7 +38,7 @@ use Rattle.in_flight.proofs.in_slots.Asked.{IsOfSlot, AreSlots, asked_found, ask
 abbrev Own : List (Option Pending) → Type 0
 Own os = Pairs (λ x y. number_of x ≢ number_of y) (somes os)
 
--- the instruction or nothing was read in the slot that a question is about; the slots represent this list
+-- the content of the slot that a question is about; the three tables of slots represent the list `ms`
 pub record IsRead {W : Type 0} (ask : Pending → Option W) (units places channels : List (Option Pending))
     (ms : List Pending) (i : ℕ) (o : Option Pending) : Type 0 where
   pub asked : IsOfSlot slot_of ask i
@@ -97,7 +97,7 @@ read_replaced {ask = ask} {ms = ms} g ns r e =
     asked_view slot_of number_of ask _ _ _ g ns r.asked (as_slots r.right) r.there e
     ∙ ap (λ l. replaced (seek ask l) l g) r.view
 
--- ---- the one that holds a unit ----
+-- ---- the instruction that holds a unit ----
 
 stage_here : (u v : FunctionalUnit) (p : Phase) → slot_in v p ≡ unit_number u → (t : Stage)
     × (cond (same_unit v u) (stage_in p) None ≡ Some t)
@@ -312,7 +312,7 @@ none_there : (units places channels ps cs : List (Option Pending)) (m : Pending)
 unfolding places_with channels_with
 none_there units places channels ps cs m rest = cc
 
--- without the item in one slot, the slots are those of the three lists
+-- the three lists hold the slots of `os`, with one slot emptied
 pub record IsOut (os units places channels : List (Option Pending)) (i : ℕ) : Type 0 where
   rest : set os i None ≡ slots units places channels
   all_units : length units ≡ 10
