@@ -3,7 +3,7 @@ use Rattle.std.proofs.Common.{◌≡◌, ◌≢◌, ◌<◌, ◌≤◌, ◌+◌,
 use Rattle.std.proofs.Common.{Option, Some, None, refl, sym, ap, ◌∙◌, subst, ltb, get_or, set, length, arith}
 use Rattle.std.specs.Prelude.{◌&&◌, is_none, IfSome}
 use Rattle.std.specs.List.{list_all}
-use Rattle.std.proofs.lemmas.Bool.{eq-eqb, ne_eqb, lt-ltb, ltb-true, ltb-false}
+use Rattle.std.proofs.lemmas.Bool.{eq-eqb, ltb-true, ltb-false}
 use Rattle.std.proofs.lemmas.List.{length-set, set-set, set-append_left, get_or_append_left, get_or-set_same}
 use Rattle.instructions.specs.declared.instr.Unit.{Unit as FunctionalUnit}
 use Rattle.scoreboard.specs.Units.{unit_number, same_unit}
@@ -76,8 +76,7 @@ read_must r k = let f = read_answers r in let e : None ≡ Some f.0 = sym k ∙ 
 -- the search finds nothing if the slot is empty
 pub read_nobody : {W : Type 0} {ask : Pending → Option W} {units places channels : List (Option Pending)}
     {ms : List Pending} {i : ℕ} → IsRead ask units places channels ms i None → seek ask ms ≡ None
-read_nobody {ask = ask} r =
-    ap (seek ask) (sym r.view) ∙ asked_nobody slot_of number_of _ _ _ r.asked (as_slots r.right) r.there
+read_nobody {ask = ask} r = grind (arith, asked_nobody, as_slots)
 
 -- nothing is replaced if the slot is empty
 pub read_unchanged : {W : Type 0} {ask : Pending → Option W} {units places channels : List (Option Pending)}
@@ -93,9 +92,7 @@ read_replaced : {W : Type 0} {ask : Pending → Option W} {units places channels
     → ns ≡ before_slot number_of (slots units places channels) i m
     ++ (g m ++ after_slot number_of (slots units places channels) i m)
     → ns ≡ replaced (seek ask ms) ms g
-read_replaced {ask = ask} {ms = ms} g ns r e =
-    asked_view slot_of number_of ask _ _ _ g ns r.asked (as_slots r.right) r.there e
-    ∙ ap (λ l. replaced (seek ask l) l g) r.view
+read_replaced {ask = ask} {ms = ms} g ns r e = grind (arith, asked_view, as_slots)
 
 -- ---- the instruction that holds a unit ----
 
@@ -109,8 +106,7 @@ stage_here u v (After (Accepted n w)) h = absurd (let b = unit_below u in grind 
 stage_others : (u v : FunctionalUnit) (p : Phase) → slot_in v p ≢ unit_number u
     → cond (same_unit v u) (stage_in p) None ≡ None
 unfolding slot_in same_unit stage_in
-stage_others u v (Before t) h = ap (λ b. cond b (Some t) None) (ne_eqb (unit_number v) (unit_number u) h)
-stage_others u v (After l) h = grind arith
+stage_others u v p h = grind arith
 
 stage_asked : (u : FunctionalUnit) (i : ℕ) → i ≡ unit_number u → IsOfSlot slot_of (stage_at u) i
 unfolding stage_at slot_of
@@ -129,15 +125,8 @@ pub unit_read : {units places channels : List (Option Pending)} {ms : List Pendi
     (u : FunctionalUnit) (d : Option Pending) → IsRight units places channels
     → in_order (slots units places channels) ≡ ms → i ≡ unit_number u → get_or units i d ≡ o
     → IsRead (stage_at u) units places channels ms i o
-unit_read {units} {places} {channels} {i = i} {o = o} u d right view e h =
-    let b = unit_below u in
-    let inside : i < length units = omega (arith, b, e, right.all_units) in
-    record {
-      asked = stage_asked u i e;
-      right = right;
-      there = unit_slot units places channels i o inside (slot_any units i d inside ∙ h);
-      view = view;
-    }
+unit_read {units} {places} {channels} {i =
+    i} {o = o} u d right view e h = grind (arith, unit_below, stage_asked, unit_slot, slot_any)
 
 -- the stage of the instruction that holds the unit
 pub stage_read : {units places channels : List (Option Pending)} {ms : List Pending} {i : ℕ} {m : Pending} {t : Stage}
@@ -239,9 +228,7 @@ HasRest places channels m l ps cs = (ps ≡ places_with places m l) × (cs ≡ c
 -- the place or the channel of the rest exists
 pub rest_within : (places channels : List (Option Pending)) (l : Option Outstanding) (ms : List Pending)
     → length places ≡ 4 → length channels ≡ 8 → HasRoom l ms → IfSome l (IsWithin (length places) (length channels))
-rest_within places channels None ms p c room = tt
-rest_within places channels (Some (Entered place a access)) ms p c room = subst (λ n. place < n) (sym p) room.0
-rest_within places channels (Some (Accepted n word)) ms p c room = subst (λ k. n < k) (sym c) room.0
+rest_within places channels l ms p c room = grind arith
 
 abbrev later_slot : Outstanding → ℕ
 later_slot (Entered place a access) = 10 + place
@@ -265,16 +252,13 @@ left_slots units places channels m (Accepted n word) ms lu lp room =
 left_stands : (m : Pending) (l : Outstanding) (ms : List Pending) → HasRoom (Some l) ms
     → slot_of (in_phase m (After l)) ≡ later_slot l
 unfolding slot_of slot_in in_phase
-left_stands m (Entered place a access) ms room = ap (λ b. cond b (10 + place) 22) (lt-ltb place 4 room.0)
-left_stands m (Accepted n word) ms room = ap (λ b. cond b (14 + n) 22) (lt-ltb n 8 room.0)
+left_stands m l ms room = grind arith
 
 left_elsewhere : (l : Outstanding) (ms : List Pending) → HasRoom (Some l) ms → AreElsewhere (later_slot l) ms
-left_elsewhere (Entered place a access) ms room = room.1
-left_elsewhere (Accepted n word) ms room = room.1
+left_elsewhere l ms room = grind arith
 
 left_below : (l : Outstanding) (ms : List Pending) → HasRoom (Some l) ms → later_slot l < 22
-left_below (Entered place a access) ms room = omega (arith, room.0)
-left_below (Accepted n word) ms room = omega (arith, room.0)
+left_below l ms room = grind arith
 
 length_joined : {K : Type 0} (xs ys : List K) → length (xs ++ ys) ≡ length xs + length ys
 length_joined [] ys = omega arith
@@ -283,10 +267,7 @@ length_joined (x ∷ xs) ys = let e = length_joined xs ys in omega (arith, e)
 all_slots : (units places channels : List (Option Pending)) → IsRight units places channels
     → length (slots units places channels) ≡ 22
 unfolding slots
-all_slots units places channels right =
-    let a = length_joined units (places ++ channels) in
-    let b = length_joined places channels in
-    omega (arith, a, b, right.all_units, right.all_places, right.all_channels)
+all_slots units places channels right = grind (arith, length_joined)
 
 left_empty : (os : List (Option Pending)) (i : ℕ) (l : Outstanding) → IsInSlots slot_of 0 os
     → HasRoom (Some l) (in_order os) → get_or (set os i None) (later_slot l) None ≡ None
@@ -298,9 +279,7 @@ left_empty os i l s room =
 with_lengths : (places channels : List (Option Pending)) (m : Pending) (l : Option Outstanding)
     → (length (places_with places m l) ≡ length places) × (length (channels_with channels m l) ≡ length channels)
 unfolding places_with channels_with
-with_lengths places channels m None = (refl, refl)
-with_lengths places channels m (Some (Entered place a access)) = (length-set places place _, refl)
-with_lengths places channels m (Some (Accepted n word)) = (refl, length-set channels n _)
+with_lengths places channels m l = grind (arith, length-set)
 
 rest_there : (units places channels ps cs : List (Option Pending)) (m : Pending) (l : Option Outstanding)
     → HasRest places channels m l ps cs
@@ -359,9 +338,7 @@ moved_order : (os units places channels ps cs : List (Option Pending)) (i : ℕ)
     → IsOut os units places channels i → HasRoom l (in_order os) → HasRest places channels m l ps cs
     → in_order (slots units ps cs) ≡ before_slot number_of os i m ++ (kept m l ++ after_slot number_of os i m)
 unfolding kept
-moved_order os units places channels ps cs i m None there s all o room rest =
-    ap (λ k. sort_by number_of (somes k)) (sym (o.rest ∙ none_there units places channels ps cs m rest))
-    ∙ taken_without number_of (number_of m) os i
+moved_order os units places channels ps cs i m None there s all o room rest = grind (arith, none_there, taken_without)
 moved_order os units places channels ps cs i m (Some l) there s all o room rest =
     let low = left_below l (in_order os) room in
     ap (λ k. sort_by number_of (somes k))
@@ -385,14 +362,7 @@ pub unit_out : {units places channels : List (Option Pending)} {i : ℕ} (u : Fu
     → IsRight units places channels → i ≡ unit_number u
     → IsOut (slots units places channels) (set units i None) places channels i
 unfolding slots
-unit_out {units} {places} {channels} {i} u right e =
-    let b = unit_below u in
-    record {
-      rest = set-append_left units (places ++ channels) i None (omega (arith, b, e, right.all_units));
-      all_units = length-set units i None ∙ right.all_units;
-      all_places = right.all_places;
-      all_channels = right.all_channels;
-    }
+unit_out {units} {places} {channels} {i} u right e = grind (arith, unit_below, set-append_left, length-set)
 
 -- ---- out of a place ----
 
@@ -405,9 +375,7 @@ entry_here p v (After (Entered s a x)) b h = (record { address = a; access = x }
 
 entry_others : (p : ℕ) (v : FunctionalUnit) (q : Phase) → p < 4 → slot_in v q ≢ 10 + p → entry_in p q ≡ None
 unfolding entry_in slot_in
-entry_others p v (Before t) b h = refl
-entry_others p v (After (Accepted n w)) b h = refl
-entry_others p v (After (Entered s a x)) b h = grind arith
+entry_others p v q b h = grind arith
 
 entry_asked : (p i : ℕ) → p < 4 → i ≡ p → IsOfSlot slot_of (entry_at p) (10 + i)
 unfolding entry_at slot_of
@@ -424,15 +392,8 @@ pub place_read : {units places channels : List (Option Pending)} {ms : List Pend
     (d : Option Pending) → IsRight units places channels → in_order (slots units places channels) ≡ ms → p < 4
     → i ≡ p → get_or places i d ≡ o → IsRead (entry_at p) units places channels ms (10 + i) o
 unfolding slots
-place_read {units} {places} {channels} {i = i} {p} d right view b e h =
-    let inside : i < length places = omega (arith, b, e, right.all_places) in
-    record {
-      asked = entry_asked p i b e;
-      right = right;
-      there = get_back units (places ++ channels) i (10 + i) None (omega (arith, right.all_units))
-          ∙ get_or_append_left places channels None i inside ∙ slot_any places i d inside ∙ h;
-      view = view;
-    }
+place_read {units} {places} {channels} {i =
+    i} {p} d right view b e h = grind (arith, entry_asked, get_back, slot_any, get_or_append_left)
 
 pub place_out : {units places channels : List (Option Pending)} {i : ℕ} → IsRight units places channels → i < 4
     → IsOut (slots units places channels) units (set places i None) channels (10 + i)
@@ -456,9 +417,7 @@ arrival_here n v (After (Accepted m w)) b h = (record { channel = m; word = w },
 
 arrival_others : (n : ℕ) (v : FunctionalUnit) (q : Phase) → n < 8 → slot_in v q ≢ 14 + n → arrival_in n q ≡ None
 unfolding arrival_in slot_in
-arrival_others n v (Before t) b h = refl
-arrival_others n v (After (Entered s a x)) b h = refl
-arrival_others n v (After (Accepted m w)) b h = grind arith
+arrival_others n v q b h = grind arith
 
 arrival_asked : (n i : ℕ) → n < 8 → i ≡ n → IsOfSlot slot_of (arrival_at n) (14 + i)
 unfolding arrival_at slot_of
@@ -502,9 +461,7 @@ no_rest places channels m = (refl, refl)
 
 arrival_far_in : (n : ℕ) (v : FunctionalUnit) (q : Phase) → 8 ≤ n → slot_in v q < 22 → arrival_in n q ≡ None
 unfolding arrival_in slot_in
-arrival_far_in n v (Before t) b h = refl
-arrival_far_in n v (After (Entered s a x)) b h = refl
-arrival_far_in n v (After (Accepted m w)) b h = grind arith
+arrival_far_in n v q b h = grind arith
 
 arrival_far : (n : ℕ) (y : Pending) → 8 ≤ n → slot_of y < 22 → arrival_at n y ≡ None
 unfolding arrival_at slot_of
@@ -533,8 +490,7 @@ arrival_none {units} {places} {channels} {ms} n right view h = by_test (ltb n 8)
 
 pub channel_below : {units places channels : List (Option Pending)} (n : ℕ) (m : Pending)
     → IsRight units places channels → get_or channels n None ≡ Some m → n < 8
-channel_below {channels = channels} n m right h =
-    let w = within channels n m h in omega (arith, w, right.all_channels)
+channel_below {channels = channels} n m right h = grind (arith, within)
 
 -- ---- a new one ----
 
@@ -599,11 +555,7 @@ new_view units places channels i m right e h last =
 insert_some : (x : Pending) (ys : List Pending) → has_none (insert_by number_of x ys) ≡ false
 unfolding insert_by has_none
 insert_some x [] = refl
-insert_some x (y ∷ ys) = by_test (ltb (number_of x) (number_of y))
-  where
-    by_test : (b : Bool) → has_none (cond b (x ∷ y ∷ ys) (y ∷ insert_by number_of x ys)) ≡ false
-    by_test true = refl
-    by_test false = refl
+insert_some x (y ∷ ys) = grind arith
 
 none_sorted : (os : List (Option Pending)) → list_all is_none os ≡ has_none (sort_by number_of (somes os))
 unfolding sort_by somes has_none
@@ -622,6 +574,4 @@ pub none_pending : (units places channels : List (Option Pending))
     ≡ has_none (in_order (slots units places channels))
 unfolding slots
 none_pending units places channels =
-    ap (λ b. list_all is_none units && b) (sym (all-append places channels))
-    ∙ sym (all-append units (places ++ channels))
-    ∙ none_sorted (units ++ (places ++ channels))
+    cc (all-append places channels, all-append units (places ++ channels), none_sorted (units ++ (places ++ channels)))
