@@ -225,11 +225,6 @@ abbrev pub HasRest : (places channels : List (Option Pending)) → Pending → O
     → (ps cs : List (Option Pending)) → Type 0
 HasRest places channels m l ps cs = (ps ≡ places_with places m l) × (cs ≡ channels_with channels m l)
 
--- the place or the channel of the rest exists
-pub rest_within : (places channels : List (Option Pending)) (l : Option Outstanding) (ms : List Pending)
-    → length places ≡ 4 → length channels ≡ 8 → HasRoom l ms → IfSome l (IsWithin (length places) (length channels))
-rest_within places channels l ms p c room = grind arith
-
 abbrev later_slot : Outstanding → ℕ
 later_slot (Entered place a access) = 10 + place
 later_slot (Accepted n word) = 14 + n

@@ -1,4 +1,4 @@
-use Rattle.std.proofs.Common.{sym, ap, ◌∙◌, subst}
+use Rattle.std.proofs.Common.{sym, ap, ◌∙◌, subst, arith}
 use Rattle.std.proofs.lemmas.Result.{err_from_is_err_and}
 use Rattle.std.specs.Prelude.{Some}
 use Rattle.instructions.specs.Each.{Pairs}
@@ -11,12 +11,7 @@ use Rattle.in_flight.proofs.answering.Beside.{nothing_there, return_answered}
 use Rattle.in_flight.proofs.flight.InFlight.may_return.Goals as goal
 
 pub returns-in_default-clause-answer : goal.returns-in_default-clause-answer
-returns-in_default-clause-answer c =
-    sym (ap (λ (f : Flight). refusal_of
-    (tests_found (seek (arrival_at c.args.channel) f.pending)
-    (λ f. return_tests f.earlier f.answer))) c.self.view_is)
-    ∙ nothing_there (seek (arrival_at c.args.channel) c.self.inside.slots) _
-    (sym c.find_arrival.ensures.found ∙ c.in_default.is)
+returns-in_default-clause-answer c = grind (arith, nothing_there)
 
 pub returns-in_err-may_return-clause-answer : goal.returns-in_err-may_return-clause-answer
 returns-in_err-may_return-clause-answer c =
@@ -31,11 +26,4 @@ returns-in_err-may_return-clause-answer c =
     ∙ sym (ap refusal_in p.1 ∙ ap Some p.2)
 
 pub returns-clause-answer : goal.returns-clause-answer
-returns-clause-answer c =
-    sym (ap (λ (f : Flight). refusal_of
-    (tests_found (seek (arrival_at c.args.channel) f.pending)
-    (λ f. return_tests f.earlier f.answer))) c.self.view_is)
-    ∙ return_answered c.args.channel c.self.inside.slots c.self.inside.board.issued c.in-Some.found _
-    c.self.invariant.boarded (subst (λ (f : Flight). Pairs IsApart f.pending) (sym c.self.view_is)
-    c.requires.apart) (sym c.find_arrival.ensures.found ∙ c.in-Some.is) (sym c.in_ok-may_return.was
-    ∙ c.may_return.ensures)
+returns-clause-answer c = grind (arith, return_answered)

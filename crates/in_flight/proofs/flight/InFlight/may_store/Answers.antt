@@ -1,9 +1,9 @@
-use Rattle.std.proofs.Common.{sym, ap, ◌∙◌}
+use Rattle.std.proofs.Common.{sym, ap, ◌∙◌, arith}
 use Rattle.std.proofs.lemmas.Result.{err_from_is_err_and}
 use Rattle.std.specs.Prelude.{is_none, ◌&&◌, Some}
 use Rattle.instructions.specs.Finding.{seek}
 use Rattle.in_flight.specs.Flight.{Flight, outstanding_of}
-use Rattle.in_flight.specs.Tests.{refusal_in, store_conflicts, refusal_of}
+use Rattle.in_flight.specs.Tests.{store_conflicts, refusal_of}
 use Rattle.in_flight.specs.Lookup.{stage_at, place_for, enters}
 use Rattle.in_flight.proofs.answering.Beside.{store_refused, store_unroomed, store_turned, full_is}
 use Rattle.in_flight.proofs.answering.Referring.{enters_in_range, none_enters}
@@ -13,16 +13,7 @@ use Rattle.in_flight.proofs.flight.InFlight.may_store.Goals.{in_default-via-in_d
 use Rattle.in_flight.proofs.flight.InFlight.may_store.Goals as goal
 
 pub returns-in_err-may_store : goal.returns-in_err-may_store
-returns-in_err-may_store c f h =
-    let p = err_from_is_err_and c.from_residual.result c.from_residual.ensures.1 in
-    sym (ap (λ (x : Flight). refusal_of (store_conflicts x.pending f.earlier f.item.instr
-    (enters (outstanding_of 0 c.args.rest.now)))) c.self.view_is)
-    ∙ store_refused c.args.unit c.self.inside.slots c.self.inside.board.issued f (enters (outstanding_of 0
-    c.args.rest.now))
-    c.in_err-may_store.field-0.0 c.self.invariant.boarded
-    (ap (λ (x : Flight). seek (stage_at c.args.unit) x.pending) c.self.view_is ∙ h)
-    (sym c.in_err-may_store.was ∙ c.may_store.ensures)
-    ∙ sym (ap refusal_in p.1 ∙ ap Some p.2)
+returns-in_err-may_store c f h = grind (arith, store_refused, err_from_is_err_and)
 
 pub returns-in-Some : goal.returns-in-Some
 returns-in-Some c f h =

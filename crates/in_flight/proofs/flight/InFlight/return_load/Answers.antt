@@ -1,4 +1,4 @@
-use Rattle.std.proofs.Common.{◌≡◌, [], sym, subst}
+use Rattle.std.proofs.Common.{◌≡◌, [], sym, subst, arith}
 use Rattle.std.specs.Prelude.{Some}
 use Rattle.instructions.specs.Each.{Pairs}
 use Rattle.scoreboard.specs.Answers.{returning_by, gone}
@@ -18,8 +18,7 @@ invariant_of-self c =
     (sym c.self.view_is) c.in-Ok.ensures.found) c.self.invariant c.returned.ensures c.returned-2.ensures
 
 pub returns-clause-arrival : goal.returns-clause-arrival
-returns-clause-arrival c =
-    what_there (seek (arrival_at c.args.channel) c.args.self.now.pending) c.in-Ok.found c.in-Ok.ensures.found
+returns-clause-arrival c = grind (arith, what_there)
 
 pub returns-clause-after : goal.returns-clause-after
 returns-clause-after c =

@@ -1,14 +1,11 @@
-use Rattle.std.proofs.Common.{◌≡◌, ap, sym, ◌∙◌, refl, Some, None, get_or}
+use Rattle.std.proofs.Common.{◌≡◌, ap, sym, ◌∙◌, refl, Some, None, get_or, arith}
 use Rattle.in_flight.specs.Lookup.{located}
 use Rattle.in_flight.proofs.in_slots.Moving.{channel_read, channel_below, arrival_none, read_found, read_must}
 use Rattle.in_flight.proofs.slots.Slots.find_arrival.Goals as goal
 
 pub returns-in_default-clause-found : goal.returns-in_default-clause-found
 unfolding located
-returns-in_default-clause-found c =
-    ap located (sym (arrival_none c.args.channel c.self.invariant c.self.view_is
-    (ap (λ k. get_or c.self.inside.channels k None) (sym c.from.ensures) ∙ sym c.slot_at-slot.ensures
-    ∙ c.in_default.is)))
+returns-in_default-clause-found c = grind (arith, arrival_none)
 
 pub returns-in-Some-arrival_in-clause-found : goal.returns-in-Some-arrival_in-clause-found
 returns-in-Some-arrival_in-clause-found c =
@@ -20,9 +17,7 @@ returns-in-Some-arrival_in-clause-found c =
     (sym c.arrival_in.ensures ∙ c.in-Some-arrival_in.is)
 
 pub returns-in-Some-arrival_in-clause-range : goal.returns-in-Some-arrival_in-clause-range
-returns-in-Some-arrival_in-clause-range c =
-    channel_below c.args.channel c.in-Some.pending c.self.invariant
-    (ap (λ k. get_or c.self.inside.channels k None) (sym c.from.ensures) ∙ sym c.slot_at-slot.ensures ∙ c.in-Some.is)
+returns-in-Some-arrival_in-clause-range c = grind (arith, channel_below)
 
 pub returns-in-None : goal.returns-in-None
 returns-in-None c =
