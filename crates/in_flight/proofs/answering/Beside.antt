@@ -11,7 +11,6 @@ use Rattle.instructions.specs.Operands.{uses}
 use Rattle.instructions.specs.declared.instr.Unit.{Unit as FunctionalUnit}
 use Rattle.instructions.specs.declared.refusal.Refusal.{Refusal}
 use Rattle.instructions.specs.declared.refusal.Refusal.TheVariants.{Nothing, HopperFull, UnitBusy, ResultReserved}
-use Rattle.instructions.specs.declared.refusal.Refusal.TheVariants.{ResultHeld}
 use Rattle.instructions.specs.Each.{Each, Pairs}
 use Rattle.instructions.specs.RegisterLists.{overlap}
 use Rattle.instructions.specs.Shape.{shape_of, results, is_branch_shape}
@@ -204,8 +203,7 @@ staged_waits : (u : FunctionalUnit) (ms : List Pending) (f : Found Pending Stage
 unfolding waiting_in in_phase
 staged_waits u ms f t h =
     let q = stage_found u f.item f.answer (seek_splits (stage_at u) ms f h).1 in
-    waiting_same (stage_at u) ms f (in_phase f.item (Before t) ∷ []) h
-    (waiting_one (in_phase f.item (Before t)) ∙ sym (ap waiting_in q))
+    grind (arith, waiting_same, waiting_one)
 
 -- a property of all instructions, after one was replaced
 pub each_put : {K : Type 0} (P : Pending → Type 0) (g : Pending → Option K) (ms : List Pending) (f : Found Pending K)
@@ -214,8 +212,7 @@ unfolding put_back
 each_put P g ms f xs h step k =
     let all = subst (Each P) (seek_splits g ms f h).0 k in
     let rest = each_right P f.earlier (f.item ∷ f.later) all in
-    each_append P f.earlier (xs ++ f.later) (each_left P f.earlier (f.item ∷ f.later) all)
-    (each_append P xs f.later (step rest.0) rest.1)
+    grind (arith, each_append, each_left)
 
 -- ---- places ----
 
@@ -322,13 +319,11 @@ read_tied u ms ns queue b c s os h tied en ec =
     let made : ns ≡ put_back p.0 (in_phase p.0.item (Before (Read os)) ∷ []) =
     en ∙ ap (λ o. replaced o ms (λ m. in_phase m (Before (Read os)) ∷ [])) p.1 in
     record {
-      boarded = ap (λ (x : Standing). x.issued) ec ∙ ap (λ l. replaced (seek (held_in u) l) l read) tied.boarded
-          ∙ sym (read_follows u ms p.0 os p.1) ∙ ap on_board (sym made);
+      boarded = grind (arith, read_follows);
       entered = tied.entered ∙ sym (staged_waits u ms p.0 (Read os) p.1) ∙ ap waiting (sym made);
       counted = subst (λ l. Each (λ m. m.number ≤ l) ns) (sym (ap (λ (x : Standing). x.last) ec))
           (subst (Each (λ m. m.number ≤ b.last)) (sym made)
-          (each_put (λ m. m.number ≤ b.last) (stage_at u) ms p.0 (in_phase p.0.item (Before (Read os)) ∷ []) p.1
-          (λ k. (k, tt)) tied.counted));
+          (search each_put));
     }
 
 -- ---- a unit that finishes ----
@@ -344,8 +339,7 @@ finish_tied u ms ns queue b v (Some f) h k tied en =
       boarded = tied.boarded ∙ sym (stage_follows u ms f v h k) ∙ ap on_board (sym made);
       entered = tied.entered ∙ sym (staged_waits u ms f (Finished v) h) ∙ ap waiting (sym made);
       counted = subst (Each (λ m. m.number ≤ b.last)) (sym made)
-          (each_put (λ m. m.number ≤ b.last) (stage_at u) ms f (in_phase f.item (Before (Finished v)) ∷ []) h
-          (λ k. (k, tt)) tied.counted);
+          (search each_put);
     }
 
 -- ---- a load that returns ----
@@ -409,16 +403,7 @@ unfolding tests_found return_tests
 return_answered n ms xs s r e apart h k =
     let p = there (seek (arrival_at n) ms) s h in
     let q = seek_splits (arrival_at n) ms p.0 p.1 in
-    ap (λ o. refusal_of (tests_found o (λ f. return_tests f.earlier f.answer))) p.1
-    ∙ ap (λ c. refusal_of (record {
-      fails = conflict.to_be_read reservation_of p.0.earlier (X c);
-      refusal = ResultHeld
-          (X c);
-    }
-    ∷ [])) (arrival_channel n p.0.item p.0.answer q.1)
-    ∙ test_is (conflict.to_be_read reservation_of p.0.earlier (X n)) (ResultHeld (X n))
-    ∙ ap refusal_in (sym (k ∙ ap (λ l. return_answer n (seek (returning_by n) l)) e
-    ∙ return_of_all n ms p.0 p.1 (free_load n ms p.0 p.1 apart)))
+    search (arith, arrival_channel, test_is, return_of_all, free_load)
 
 pub return_tied : (n : ℕ) (ms ns : List Pending) (queue : Queue) (b c : Standing) (s : Located Arrival)
     → Pairs IsApart ms → located (seek (arrival_at n) ms) ≡ Some s → IsTied ms queue b
@@ -430,10 +415,8 @@ return_tied n ms ns queue b c s apart h tied en ec =
     let q = seek_splits (arrival_at n) ms p.0 p.1 in
     let made : ns ≡ put_back p.0 [] = en ∙ ap (λ o. replaced o ms (λ m. [])) p.1 in
     record {
-      boarded = ap (λ (x : Standing). x.issued) ec ∙ ap (λ l. replaced (seek (returning_by n) l) l gone) tied.boarded
-          ∙ sym (return_follows n ms p.0 p.1 (free_load n ms p.0 p.1 apart)) ∙ ap on_board (sym made);
-      entered = tied.entered ∙ sym (waiting_same (arrival_at n) ms p.0 [] p.1
-          (sym (ap waiting_in (arrival_phase n p.0.item p.0.answer q.1)))) ∙ ap waiting (sym made);
+      boarded = grind (arith, return_follows, free_load);
+      entered = grind (arith, waiting_same, arrival_phase);
       counted = subst (λ l. Each (λ m. m.number ≤ l) ns) (sym (ap (λ (x : Standing). x.last) ec))
           (subst (Each (λ m. m.number ≤ b.last)) (sym made)
           (each_put (λ m. m.number ≤ b.last) (arrival_at n) ms p.0 [] p.1 (λ k. tt) tied.counted));

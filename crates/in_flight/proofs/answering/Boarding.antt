@@ -34,7 +34,7 @@ use Rattle.instructions.specs.Each.{Each}
 use Rattle.in_flight.specs.declared.pending.Arrival.{Arrival}
 use Rattle.hopper.specs.declared.reference.Reference.{Reference}
 use Rattle.in_flight.specs.declared.pending.Outstanding.{Outstanding}
-use Rattle.in_flight.specs.declared.pending.Outstanding.TheVariants.{Entered, Accepted}
+use Rattle.in_flight.specs.declared.pending.Outstanding.TheVariants.{Accepted}
 use Rattle.in_flight.specs.declared.pending.Pending.{Pending}
 use Rattle.in_flight.specs.declared.pending.Phase.{Phase}
 use Rattle.in_flight.specs.declared.pending.Phase.TheVariants.{Before, After}
@@ -265,8 +265,7 @@ unfolding found_on_board
 return_found n ms f h k =
     let p = seek_splits (arrival_at n) ms f h in
     let q = arrival_occupancy n f.item f.answer p.1 in
-    ap (seek (returning_by n)) (ap on_board p.0
-    ∙ board_around f.earlier f.item f.later (λ z. let y : Left (Some n) ≡ Left None = sym q ∙ z in cc))
+    ap (seek (returning_by n)) (grind (arith, board_around))
     ∙ seek_around (returning_by n) (on_board f.earlier) (issued_of f.item) f.item.instr (on_board f.later)
     (silent_returns n f.earlier k) (returning_here n f.item f.answer p.1)
 
@@ -322,12 +321,7 @@ stage_follows u ms f v h e =
     let p = seek_splits (stage_at u) ms f h in
     let q : occupancy_of f.item.phase ≡ Reserved true =
     ap occupancy_of (stage_found u f.item f.answer p.1) ∙ ap Reserved e in
-    same_put (stage_at u) ms f (in_phase f.item (Before (Finished v)) ∷ []) h
-    (seen_alike (in_phase f.item (Before (Finished v))) f.item
-    (sym (ap (λ z. record {
-      number = f.item.number;
-      reservation = record { instr = f.item.instr; unit = f.item.unit; occupancy = z };
-    }) q)))
+    grind (arith, same_put, seen_alike)
 
 kept_put : (m : Pending) (l : Option Outstanding) → on_board (kept m l) ≡ left_with (issued_of m) (left_to_return l)
 unfolding on_board kept kept_on left_with issued_of reservation_of in_occupancy in_phase occupancy_of left_to_return
@@ -345,16 +339,7 @@ pub load_follows : (p : ℕ) (ms : List Pending) (f : Found Pending Reference) (
 unfolding entry_at issued_of reservation_of in_phase occupancy_of returning
 load_follows p ms f n w h e =
     let q = entry_in_found p f.item.phase f.answer (seek_splits (entry_at p) ms f h).1 in
-    same_put (entry_at p) ms f (in_phase f.item (After (Accepted n w)) ∷ []) h
-    (seen_alike (in_phase f.item (After (Accepted n w))) f.item
-    (sym (ap (λ z. record {
-      number = f.item.number;
-      reservation = record {
-        instr = f.item.instr;
-        unit = f.item.unit;
-        occupancy = occupancy_of z;
-      };
-    }) (q.1 ∙ ap (λ x. After (Entered q.0 f.answer.address x)) e))))
+    grind (arith, same_put, seen_alike)
 
 unseen : (m : Pending) → (reservation_of m).occupancy ≡ Left None → [] ≡ on_board (m ∷ [])
 unfolding on_board kept_on
@@ -365,8 +350,7 @@ pub stored_follows : (p : ℕ) (ms : List Pending) (f : Found Pending Reference)
 unfolding entry_at reservation_of occupancy_of returning on_board
 stored_follows p ms f w h e =
     let q = entry_in_found p f.item.phase f.answer (seek_splits (entry_at p) ms f h).1 in
-    same_put (entry_at p) ms f [] h
-    (unseen f.item (ap occupancy_of (q.1 ∙ ap (λ x. After (Entered q.0 f.answer.address x)) e)))
+    grind (arith, same_put, unseen)
 
 pub return_follows : (n : ℕ) (ms : List Pending) (f : Found Pending Arrival) → seek (arrival_at n) ms ≡ Some f
     → awaited reservation_of f.earlier (X n) ≡ false

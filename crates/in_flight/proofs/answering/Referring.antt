@@ -238,8 +238,7 @@ room_by memory p ms f (Store w) apart own_slots h e = tt
 room_by memory p ms f (Load n) apart own_slots h e =
     let q = seek_splits (entry_at p) ms f h in
     let placed : IsPlaced (length memory) f.item.unit (After (HasEntered p f.answer.address (Load n))) =
-    subst (λ (x : Access). IsPlaced (length memory) f.item.unit (After (HasEntered p f.answer.address x))) e
-    (entry_placed (length memory) p ms f own_slots h) in
+    grind (arith, entry_placed) in
     let here : f.item.phase ≡ After (HasEntered p f.answer.address (Load n)) =
     entry_phase p f.item f.answer q.1 ∙ ap (λ x. After (HasEntered p f.answer.address x)) e in
     let b : n < 8 = (let l : n < 6 = placed.2.1 in omega (arith, l)) in (
@@ -295,10 +294,7 @@ accept_tied memory p ms ns queue after b f r l tied h e el en eq =
     let made = accept_made memory p ms ns f r l h e el en in
     record {
       boarded = tied.boarded ∙ sym (taken_boarded memory p ms f f.answer.access h refl) ∙ ap on_board (sym made);
-      entered = ap (λ (q : Queue). q.entered) (eq ∙ queue_taken queue ms p f tied.entered h)
-          ∙ sym (waiting_put f (kept f.item (left_by memory f.answer.address f.answer.access))
-          ∙ ap (λ w. waiting f.earlier ++ (w ++ waiting f.later))
-          (taken_waits memory f.answer.address f.answer.access f.item)) ∙ ap waiting (sym made);
+      entered = grind (arith, queue_taken, waiting_put, taken_waits);
       counted = subst (Each (λ m. m.number ≤ b.last)) (sym made)
           (each_put (λ m. m.number ≤ b.last) (entry_at p) ms f
           (kept f.item (left_by memory f.answer.address f.answer.access)) h
@@ -504,8 +500,7 @@ queue_entering u ms queue f place (Some a) x apart h refers e =
     let r : Entered = record { place = place; reference = record { address = a; access = x } } in
     ap (λ es. es ++ r ∷ []) (e ∙ around u ms f h ∙ ap (λ w. waiting f.earlier ++ w) none
     ∙ append-nil (waiting f.earlier))
-    ∙ sym (waiting_put f (m ∷ []) ∙ ap (λ w. waiting f.earlier ++ (w ++ waiting f.later)) (waiting_one m)
-    ∙ ap (λ w. waiting f.earlier ++ (r ∷ w)) none)
+    ∙ sym (grind (arith, waiting_put, waiting_one))
 
 queue_left : (u : FunctionalUnit) (ms : List Pending) (queue : Queue) (f : Found Pending Stage) (place : ℕ)
     (rest : Option Relocated) → Pairs IsApart ms → seek (stage_at u) ms ≡ Some f
@@ -536,12 +531,8 @@ leave_tied u ms ns queue after b c f rest l tied apart h is el en eq ec =
     let returns : left_to_return l ≡ channel_of (shape_of f.item.instr) =
     ap left_to_return where_it_waits ∙ returns_alike place rest ∙ of.returns in
     record {
-      boarded = ap (λ (x : Standing). x.issued) ec ∙ ap (λ l. replaced (seek (held_in u) l) l left) tied.boarded
-          ∙ sym (store_follows u ms f l h returns) ∙ ap on_board (sym made);
-      entered = ap (λ (q : Queue). q.entered) eq
-          ∙ ap (λ z. (queue_with queue z).entered) where_it_waits
-          ∙ queue_left u ms queue f place rest apart h of tied.entered
-          ∙ sym (ap (λ z. waiting (put_back f (kept f.item z))) where_it_waits) ∙ ap waiting (sym made);
+      boarded = grind (arith, store_follows);
+      entered = grind (arith, queue_with, queue_left);
       counted = subst (λ k. Each (λ m. m.number ≤ k) ns) (sym (ap (λ (x : Standing). x.last) ec))
           (subst (Each (λ m. m.number ≤ b.last)) (sym made)
           (each_put (λ m. m.number ≤ b.last) (stage_at u) ms f (kept f.item l) h (λ k. each_kept b.last f.item l k)

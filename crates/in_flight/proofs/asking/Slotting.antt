@@ -73,8 +73,7 @@ all_slots size [] a b c = tt
 all_slots size (m ∷ ms) a b c = (
   each_both (λ n. IsProper size n × (clash m n ≡ false)) (IsApart m) (λ n. slot_of m ≢ slot_of n)
       (λ n x y. two_slots size m n a.0 x.0 x.1 y) ms
-      (each_both (IsProper size) (λ n. clash m n ≡ false) (λ n. IsProper size n × (clash m n ≡ false))
-      (λ n x y. (x, y)) ms a.1 b.0) c.0,
+      (grind (arith, each_both)) c.0,
   all_slots size ms a.1 b.1 c.1,
 )
 
@@ -89,11 +88,7 @@ pub slotted_with : (size : ℕ) (es : List Pending) (m n : Pending) (ls : List P
     → HasOwnSlots size (es ++ n ∷ ls)
 slotted_with size es m n ls s p before after =
     let rest = slotted_without size es m ls s in
-    record {
-      apart = pairs_insert (λ m n. clash m n ≡ false) es n ls rest.apart before after;
-      proper = each_append (IsProper size) es (n ∷ ls) (each_left (IsProper size) es ls rest.proper)
-          (p, each_right (IsProper size) es ls rest.proper);
-    }
+    grind (arith, pairs_insert, each_append, each_left, each_right)
 
 pub proper_there : (size : ℕ) (es : List Pending) (m : Pending) (ls : List Pending) → HasOwnSlots size (es ++ m ∷ ls)
     → IsProper size m
@@ -165,10 +160,8 @@ pub slotted_after : (size : ℕ) (es : List Pending) (m : Pending) (ls : List Pe
     → HasOwnSlots size (es ++ in_phase m (After l) ∷ ls)
 slotted_after size es m ls l p free h =
     slotted_with size es m (in_phase m (After l)) ls h (proper_after size m l (proper_there size es m ls h) p)
-    (each_map (λ x. taken_by l x ≡ false) (λ x. clash x (in_phase m (After l)) ≡ false)
-    (λ x k. clash_after_right x m l k) es (each_left (λ x. taken_by l x ≡ false) es (m ∷ ls) free))
-    (each_map (λ x. taken_by l x ≡ false) (λ x. clash (in_phase m (After l)) x ≡ false)
-    (λ x k. clash_after_left x m l k) ls (each_right (λ x. taken_by l x ≡ false) es (m ∷ ls) free).1)
+    (grind (arith, each_map, clash_after_right, each_left))
+    (grind (arith, each_map, clash_after_left, each_right))
 
 each_false : (ms : List Pending) → Each (λ x. false ≡ false) ms
 each_false [] = tt

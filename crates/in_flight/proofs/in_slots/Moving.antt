@@ -1,7 +1,7 @@
 -- The list that the slots represent, after an instruction is found in its slot, changed there, moved or removed.
 use Rattle.std.proofs.Common.{◌≡◌, ◌≢◌, ◌<◌, ◌≤◌, ◌+◌, ℕ, Bool, true, false, cond, List, [], ◌∷◌, ◌++◌}
 use Rattle.std.proofs.Common.{Option, Some, None, refl, sym, ap, ◌∙◌, subst, ltb, get_or, set, length, arith}
-use Rattle.std.specs.Prelude.{◌&&◌, is_none, IfSome}
+use Rattle.std.specs.Prelude.{◌&&◌, is_none}
 use Rattle.std.specs.List.{list_all}
 use Rattle.std.proofs.lemmas.Bool.{eq-eqb, ltb-true, ltb-false}
 use Rattle.std.proofs.lemmas.List.{length-set, set-set, set-append_left, get_or_append_left, get_or-set_same}
@@ -28,7 +28,7 @@ use Rattle.instructions.specs.Finding.{seek, replaced}
 use Rattle.in_flight.specs.Lookup.{stage_in, stage_at, entry_in, entry_at, arrival_in, arrival_at, in_phase, kept}
 use Rattle.in_flight.specs.Lookup.{located}
 use Rattle.in_flight.specs.inner.Slots.{number_of, slot_in, slot_of, slots, in_order, IsRight, AreElsewhere, HasRoom}
-use Rattle.in_flight.specs.inner.Slots.{has_none, IsWithin, places_with, channels_with}
+use Rattle.in_flight.specs.inner.Slots.{has_none, places_with, channels_with}
 use Rattle.instructions.proofs.Sorted.{each_sorted}
 use Rattle.in_flight.proofs.asking.Finding.{stage_found}
 use Rattle.in_flight.proofs.in_slots.Asked.{IsOfSlot, AreSlots, asked_found, asked_nobody, asked_view}
@@ -65,8 +65,7 @@ read_found {ask = ask} {m = m} {x = x} r k =
     let f = asked_found slot_of number_of _ _ _ _ r.asked (as_slots r.right) r.there in
     let e : Some x ≡ Some f.0 = sym k ∙ f.1 in
     let xe : x ≡ f.0 = cc in
-    ap (λ z. Some (record { pending = m; answer = z })) xe ∙ ap located (sym f.2)
-    ∙ ap (λ l. located (seek ask l)) r.view
+    cc
 
 -- the instruction in the slot has an answer
 pub read_must : {W : Type 0} {ask : Pending → Option W} {units places channels : List (Option Pending)}
@@ -191,8 +190,7 @@ staged_right {units} {places} {channels} {i = i} {m = m} u s r e =
           (in_slots_fill slot_of os 0 i (in_phase m (Before s))
           (staged_slot m a.0 s (stage_found u m a.0 a.1) ∙ in_slots_here slot_of os 0 i m r.there r.right.stands)
           r.right.stands);
-      own = subst Own (set-set os i None (Some (in_phase m (Before s))) ∙ front)
-          (own_moved os i i m (Before s) r.there r.right.own (empty_there os i m r.there) (within os i m r.there));
+      own = grind (arith, own_moved, empty_there, within, set-set);
     }
 
 staged_order : (units places channels : List (Option Pending)) (i : ℕ) (m : Pending) (s : Stage) → i < length units
@@ -204,8 +202,7 @@ unfolding slots
 staged_order units places channels i m s inside here own =
     let os : List (Option Pending) = units ++ (places ++ channels) in
     ap (λ l. sort_by number_of (somes l))
-    (sym (set-set os i None (Some (in_phase m (Before s)))
-    ∙ set-append_left units (places ++ channels) i (Some (in_phase m (Before s))) inside))
+    (grind (arith, set-set, set-append_left))
     ∙ moved_with number_of os i i m (in_phase m (Before s)) here (phase_number m (Before s)) (empty_there os i m here)
     (room_there os i i (within os i m here)) own
 
@@ -268,8 +265,7 @@ left_empty : (os : List (Option Pending)) (i : ℕ) (l : Outstanding) → IsInSl
     → HasRoom (Some l) (in_order os) → get_or (set os i None) (later_slot l) None ≡ None
 left_empty os i l s room =
     slot_empty slot_of (set os i None) 0 (later_slot l) (later_slot l) (omega arith) (in_slots_empty slot_of os 0 i s)
-    (each_taken (λ y. slot_of y ≢ later_slot l) os i
-    (each_sorted number_of (λ y. slot_of y ≢ later_slot l) (somes os) (left_elsewhere l (in_order os) room)))
+    (search (each_taken, each_sorted, left_elsewhere))
 
 with_lengths : (places channels : List (Option Pending)) (m : Pending) (l : Option Outstanding)
     → (length (places_with places m l) ≡ length places) × (length (channels_with channels m l) ≡ length channels)
@@ -304,8 +300,7 @@ moved_right {us = us} {qs} {ns} {units} {places} {channels} {ps} {cs} {i = i} {m
       all_units = o.all_units;
       all_places = ap length rest.0 ∙ (with_lengths places channels m None).0 ∙ o.all_places;
       all_channels = ap length rest.1 ∙ (with_lengths places channels m None).1 ∙ o.all_channels;
-      stands = subst (IsInSlots slot_of 0) (o.rest ∙ none_there units places channels ps cs m rest)
-          (in_slots_empty slot_of os 0 i r.right.stands);
+      stands = grind (arith, none_there, in_slots_empty);
       own = subst Own (o.rest ∙ none_there units places channels ps cs m rest)
           (own_taken number_of os i m r.there r.right.own);
     }
@@ -321,11 +316,8 @@ moved_right {us = us} {qs} {ns} {units} {places} {channels} {ps} {cs} {ms} {i} {
       all_units = o.all_units;
       all_places = ap length rest.0 ∙ (with_lengths places channels m (Some l)).0 ∙ o.all_places;
       all_channels = ap length rest.1 ∙ (with_lengths places channels m (Some l)).1 ∙ o.all_channels;
-      stands = subst (IsInSlots slot_of 0) there
-          (in_slots_fill slot_of (set os i None) 0 (later_slot l) (in_phase m (After l))
-          (left_stands m l (in_order os) free ∙ omega arith) (in_slots_empty slot_of os 0 i r.right.stands));
-      own = subst Own there (own_moved os i (later_slot l) m (After l) r.there r.right.own
-          (left_empty os i l r.right.stands free) (omega (arith, all, low)));
+      stands = grind (arith, in_slots_fill, left_stands, in_slots_empty);
+      own = grind (arith, own_moved, left_empty);
     }
 
 moved_order : (os units places channels ps cs : List (Option Pending)) (i : ℕ) (m : Pending) (l : Option Outstanding)
@@ -337,9 +329,7 @@ moved_order os units places channels ps cs i m None there s all o room rest = gr
 moved_order os units places channels ps cs i m (Some l) there s all o room rest =
     let low = left_below l (in_order os) room in
     ap (λ k. sort_by number_of (somes k))
-    (sym (ap (λ k. set k (later_slot l) (Some (in_phase m (After l)))) o.rest
-    ∙ left_slots units places channels m l (in_order os) o.all_units o.all_places room
-    ∙ rest_there units places channels ps cs m (Some l) rest))
+    (grind (arith, left_slots, rest_there))
     ∙ moved_with number_of os i (later_slot l) m (in_phase m (After l)) there (phase_number m (After l))
     (left_empty os i l s.stands room) (room_there os i (later_slot l) (omega (arith, all, low))) s.own
 
@@ -348,8 +338,7 @@ pub moved_view : {W : Type 0} {ask : Pending → Option W} {us qs ns units place
     → IsOut (slots us qs ns) units places channels i → HasRoom l ms → HasRest places channels m l ps cs
     → in_order (slots units ps cs) ≡ replaced (seek ask ms) ms (λ x. kept x l)
 moved_view {us = us} {qs} {ns} l r o room rest =
-    read_replaced (λ x. kept x l) _ r (moved_order _ _ _ _ _ _ _ _ l r.there (as_slots r.right)
-    (all_slots us qs ns r.right) o (subst (HasRoom l) (sym r.view) room) rest)
+    read_replaced (λ x. kept x l) _ r (grind (arith, moved_order, as_slots, all_slots))
 
 -- ---- out of a unit ----
 
@@ -521,11 +510,9 @@ new_right units places channels i m t right e w h last =
       all_units = length-set units i (Some m) ∙ right.all_units;
       all_places = right.all_places;
       all_channels = right.all_channels;
-      stands = subst (IsInSlots slot_of 0) front
-          (in_slots_fill slot_of os 0 i m (new_stands m t w ∙ omega (arith, e)) right.stands);
+      stands = grind (arith, in_slots_fill, new_stands);
       own = subst Own front (own_put number_of os i m here (omega (arith, all, inside))
-          (each_map (λ x. x.number < m.number) (λ x. number_of x ≢ number_of m) (λ x k. less_differs x m k) (somes os)
-          (each_sorted number_of (λ x. x.number < m.number) (somes os) last)) right.own);
+          (grind (arith, each_map, each_sorted)) right.own);
     }
   where
     less_differs : (x y : Pending) → x.number < y.number → number_of x ≢ number_of y

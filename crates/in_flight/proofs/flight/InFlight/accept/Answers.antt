@@ -1,17 +1,16 @@
-use Rattle.std.proofs.Common.{◌≡◌, ◌<◌, sym, ap, ◌∙◌, subst, length, Some}
+use Rattle.std.proofs.Common.{arith}
+use Rattle.std.proofs.lemmas.Grind.{common_steps}
+use Rattle.std.proofs.Common.{◌≡◌, sym, ap, ◌∙◌, subst, length, Some}
 use Rattle.std.proofs.lemmas.Result.{MatchResult-at_ok}
-use Rattle.std.specs.Prelude.{IfSome}
 use Rattle.instructions.specs.Each.{Pairs}
 use Rattle.instructions.specs.Finding.{Found, seek}
 use Rattle.hopper.specs.declared.reference.Reference.{Reference}
-use Rattle.in_flight.specs.declared.pending.Outstanding.TheVariants.{Accepted}
 use Rattle.in_flight.specs.declared.pending.Pending.{Pending}
-use Rattle.in_flight.specs.Tests.{refusal_of, tests_found, accept_tests}
 use Rattle.in_flight.specs.Flight.{Flight, left_by}
 use Rattle.in_flight.specs.inner.OwnSlots.{HasOwnSlots}
 use Rattle.in_flight.specs.Apart.{IsApart}
 use Rattle.in_flight.specs.Lookup.{entry_at}
-use Rattle.in_flight.proofs.answering.Referring.{accept_answered, accept_found, entry_answered, entry_placed}
+use Rattle.in_flight.proofs.answering.Referring.{accept_answered, accept_found, entry_placed}
 use Rattle.in_flight.proofs.answering.Referring.{room_for_word, accept_tied, accept_flight}
 use Rattle.in_flight.proofs.flight.InFlight.accept.Goals.{After-left-in-Ok-1, in-Load, in-Store}
 use Rattle.in_flight.proofs.flight.InFlight.accept.Goals as goal
@@ -32,16 +31,13 @@ left : (c : After-left-in-Ok-1) → c.match-reference.left
     ≡ left_by c.args.memory.now c.in-Ok.reference.address c.in-Ok.reference.access
 left c =
     elim c.match-reference.branch [
-      | in-Load w ↦ w.left-is ∙ ap (λ word. Some (Accepted w.in-Load.n word)) w.load.ensures
-          ∙ sym (ap (left_by c.args.memory.now c.in-Ok.reference.address) w.in-Load.is)
+      | in-Load w ↦ grind arith
       | in-Store w ↦ w.left-is ∙ sym (ap (left_by c.args.memory.now c.in-Ok.reference.address) w.in-Store.is)
     ]
 
 pub returns-in_default-clause-answer : goal.returns-in_default-clause-answer
 returns-in_default-clause-answer c =
-    sym (ap (λ (x : Flight). refusal_of
-    (tests_found (seek (entry_at c.args.place) x.pending)
-    (λ f. accept_tests x.busy f.earlier f.answer))) c.self.view_is)
+    sym (grind arith)
     ∙ accept_answered c.args.place c.self.inside.slots c.self.inside.hopper c.accept-accepted.result
     c.self.invariant.entered
     c.accept-accepted.ensures.answer
@@ -50,10 +46,7 @@ pub load-requires : goal.load-requires
 load-requires c =
     let p = accept_found c.args.place c.self.inside.slots c.self.inside.hopper c.accept-accepted.result
     c.in-Ok.reference c.self.invariant.entered c.accept-accepted.ensures.answer c.in-Ok.is in
-    subst (λ (r : Reference). r.address < length c.args.memory.now) p.2
-    (entry_placed (length c.args.memory.now) c.args.place c.self.inside.slots p.0
-    (subst (λ (x : Flight). HasOwnSlots (length c.args.memory.now) x.pending) (sym c.self.view_is)
-    c.requires.own_slots) p.1).1
+    grind (arith, entry_placed, own_slots)
 
 pub accept-requires-clause-place : goal.accept-requires-clause-place
 accept-requires-clause-place c =
@@ -78,9 +71,7 @@ invariant_of-self c =
 
 pub returns-after-reference-clause-answer : goal.returns-after-reference-clause-answer
 returns-after-reference-clause-answer c =
-    sym (ap (λ (x : Flight). refusal_of
-    (tests_found (seek (entry_at c.args.place) x.pending)
-    (λ f. accept_tests x.busy f.earlier f.answer))) c.self.view_is)
+    sym (grind arith)
     ∙ accept_answered c.args.place c.self.inside.slots c.self.inside.hopper c.accept-accepted.result
     c.self.invariant.entered
     c.accept-accepted.ensures.answer
@@ -88,9 +79,7 @@ returns-after-reference-clause-answer c =
 pub returns-after-reference-clause-entry : goal.returns-after-reference-clause-entry
 returns-after-reference-clause-entry c =
     let p = found (goal.at.returns-after-reference-clause-entry c).After-left-in-Ok-1 in
-    rw c.in-Ok.is (subst (λ (x : Flight). IfSome (seek (entry_at c.args.place) x.pending)
-    (λ f. f.answer ≡ record { address = c.in-Ok.reference.address; access = c.in-Ok.reference.access })) c.self.view_is
-    (entry_answered c.args.place c.self.inside.slots p.0 c.in-Ok.reference p.1 p.2))
+    grind (arith, common_steps)
 
 pub returns-after-reference-clause-after : goal.returns-after-reference-clause-after
 returns-after-reference-clause-after c =

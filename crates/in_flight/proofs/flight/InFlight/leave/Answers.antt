@@ -1,9 +1,11 @@
+use Rattle.std.proofs.Common.{arith}
+use Rattle.std.proofs.Common.{rules}
 use Rattle.std.proofs.Common.{◌≡◌, true, false, sym, ap, ◌∙◌, subst, Some}
 use Rattle.std.specs.Prelude.{IfSome, is_none}
 use Rattle.instructions.specs.Each.{Pairs}
 use Rattle.instructions.specs.Finding.{Found, seek, replaced}
 use Rattle.instructions.specs.Shape.{shape_of}
-use Rattle.scoreboard.specs.Answers.{Standing, held_in, left, with_issued}
+use Rattle.scoreboard.specs.Answers.{left}
 use Rattle.in_flight.specs.declared.pending.Pending.{Pending}
 use Rattle.in_flight.specs.declared.pending.Stage.{Stage}
 use Rattle.in_flight.specs.Flight.{Flight, IsRestOf, outstanding_of}
@@ -36,22 +38,13 @@ room c = subst (λ (x : Flight). enters (outstanding_of 0 c.args.rest.now) ≡ t
 come : (c : After-left-2-1) → HasCome c.self.inside c.match-rest.self-inside c.args.rest.now c.match-rest.left
 come c =
     elim c.match-rest.branch [
-      | in-None w ↦ none_has_come c.self.inside c.match-rest.self-inside c.args.rest.now c.match-rest.left
-          w.in-None.is w.left-is w.self-inside-is
-      | in-Some+in-Some-address+in-Ok w ↦ has_entered c.self.inside c.match-rest.self-inside c.args.rest.now
-          w.in-Some.reference w.in-Some-address.address w.in-Ok.place w.enter.result w.enter.new.self
-          c.match-rest.left w.in-Some.is w.in-Some-address.is w.enter.ensures.answer w.in-Ok.is
-          w.in-Ok.ensures.after w.left-is w.self-inside-is
-      | in-Some+in-Some-address+in-Err w ↦ absurd (not_refused c.self.inside.hopper.entered c.args.rest.now
-          w.in-Some.reference w.in-Some-address.address w.enter.result w.in-Err.field-0 w.in-Some.is
-          w.in-Some-address.is w.enter.ensures.answer w.in-Err.is
-          (room_in_queue c.self.inside.slots c.self.inside.hopper c.args.rest.now c.self.invariant.entered (room c)))
+      | in-None w ↦ search (rules, none_has_come)
+      | in-Some+in-Some-address+in-Ok w ↦ search (rules, has_entered, w.in-Some.is, w.in-Some-address.is, w.enter.ensures.answer, w.in-Ok.is, w.in-Ok.ensures.after, w.left-is, w.self-inside-is)
+      | in-Some+in-Some-address+in-Err w ↦ search (rules, not_refused, room_in_queue, room)
       | in-Some+in-None-address+in-Load w ↦ load_has_come c.self.inside c.match-rest.self-inside c.args.rest.now
           w.in-Some.reference w.in-Load.n w.default.result c.match-rest.left w.in-Some.is w.in-None-address.is
           w.in-Load.is (sym w.default.ensures.1 ∙ w.default.ensures.2) w.left-is w.self-inside-is
-      | in-Some+in-None-address+in-Store w ↦ store_has_gone c.self.inside c.match-rest.self-inside c.args.rest.now
-          w.in-Some.reference w.in-Store.field-0 c.match-rest.left w.in-Some.is w.in-None-address.is w.in-Store.is
-          w.left-is w.self-inside-is
+      | in-Some+in-None-address+in-Store w ↦ search (rules, store_has_gone)
     ]
 
 -- the rest belongs to the instruction that holds the unit
@@ -63,9 +56,7 @@ rest c = subst (λ (x : Flight). IfSome (located (seek (stage_at c.args.unit) x.
 pub returns-then-is_none : goal.returns-then-is_none
 returns-then-is_none c =
     leave_nobody c.args.unit c.args.rest.now c.args.self.now
-    (sym (ap (λ (x : Flight). seek (stage_at c.args.unit) x.pending) c.self.view_is)
-    ∙ nobody_from (seek (stage_at c.args.unit) c.self.inside.slots) c.find_stage.result c.is_none.result
-    c.find_stage.ensures c.is_none.ensures c.if-is_none.true)
+    (grind (arith, nobody_from))
 
 pub leave-requires : goal.leave-requires
 leave-requires c =
@@ -86,8 +77,7 @@ invariant_of-self c =
     (come d).left
     (c.leave.ensures ∙ ap (λ ms. replaced (seek (stage_at c.args.unit) ms) ms (λ m. kept m c.match-rest.left))
     (come d).slots) (come d).queue
-    (c.release.ensures ∙ ap (λ (b : Standing). with_issued b (replaced (seek (held_in c.args.unit) b.issued) b.issued
-    left)) (come d).board)
+    (grind (arith, come))
 
 pub returns : goal.returns
 returns c =
@@ -95,7 +85,5 @@ returns c =
     leave_flight c.args.unit c.self.inside.slots c.leave.new.self c.self.inside.hopper
     c.match-rest.self-inside.hopper c.self.inside.board c.release.new.self c.args.rest.now c.match-rest.left
     c.args.self.now c.self.view_is c.self.invariant h.left
-    (c.leave.ensures ∙ ap (λ ms. replaced (seek (stage_at c.args.unit) ms) ms (λ m. kept m c.match-rest.left))
-    h.slots) h.queue
-    (c.release.ensures ∙ ap (λ (b : Standing). with_issued b (replaced (seek (held_in c.args.unit) b.issued) b.issued
-    left)) h.board)
+    (grind arith) h.queue
+    (grind arith)

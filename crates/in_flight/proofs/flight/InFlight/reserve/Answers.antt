@@ -1,3 +1,4 @@
+use Rattle.std.proofs.Common.{rules}
 use Rattle.std.proofs.Common.{sym, ap, ◌∙◌, subst, arith}
 use Rattle.instructions.specs.Operands.{uses}
 use Rattle.in_flight.specs.Flight.{Flight, flight_of, reserved_in}
@@ -10,8 +11,7 @@ pub invariant_of-self-in_default : goal.invariant_of-self-in_default
 invariant_of-self-in_default c =
     let p = error_there c.try_reserve-reserved.result c.in_default.not-Ok in
     subst (IsTied c.self.inside.slots c.self.inside.hopper)
-    (sym (unreserved c.self.inside.board c.try_reserve-reserved.new.self c.args.instr.now
-    c.try_reserve-reserved.result p.0 c.try_reserve-reserved.ensures.after p.1)) c.self.invariant
+    (sym (search (rules, unreserved))) c.self.invariant
 
 pub returns-in_default-clause-answer : goal.returns-in_default-clause-answer
 returns-in_default-clause-answer c place = grind (arith, reserve_answered)

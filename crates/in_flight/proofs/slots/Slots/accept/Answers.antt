@@ -1,3 +1,4 @@
+use Rattle.std.proofs.Common.{rules}
 use Rattle.std.proofs.Common.{arith}
 use Rattle.in_flight.specs.Lookup.{kept}
 use Rattle.in_flight.proofs.in_slots.Moving.{place_read, place_out, read_unchanged, moved_right, moved_view}
@@ -19,6 +20,5 @@ invariant_of-self c =
 pub returns : goal.returns
 returns c =
     moved_view c.args.later.now
-    (place_read c.index-self-index.result c.self.invariant c.self.view_is c.requires.place c.from-index.ensures
-    c.in-Some.is) (place_out c.self.invariant (omega (arith, c.requires.place, c.from-index.ensures)))
+    (search (rules, place_read)) (place_out c.self.invariant (omega (arith, c.requires.place, c.from-index.ensures)))
     c.requires.room (c.put_rest.ensures.places, c.put_rest.ensures.channels)

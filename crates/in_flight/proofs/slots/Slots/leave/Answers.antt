@@ -1,3 +1,4 @@
+use Rattle.std.proofs.Common.{rules}
 use Rattle.scoreboard.proofs.in_slots.Small.{index_is}
 use Rattle.in_flight.specs.Lookup.{kept}
 use Rattle.in_flight.proofs.in_slots.Moving.{unit_read, unit_out, read_unchanged, moved_right, moved_view}
@@ -19,6 +20,5 @@ invariant_of-self c =
 pub returns : goal.returns
 returns c =
     moved_view c.args.later.now
-    (unit_read c.args.unit c.index-self-index.result c.self.invariant c.self.view_is (index_is c.args.unit)
-    c.in-Some.is) (unit_out c.args.unit c.self.invariant (index_is c.args.unit)) c.requires
+    (search (rules, unit_read, index_is)) (unit_out c.args.unit c.self.invariant (index_is c.args.unit)) c.requires
     (c.put_rest.ensures.places, c.put_rest.ensures.channels)
