@@ -8,7 +8,7 @@ use Rattle.in_flight.specs.inner.Slots.{channels_with, places_with}
 use Rattle.in_flight.specs.Pending.{occupancy_of, reservation_of, returning, to_come}
 use Rattle.in_flight.proofs.asking.PendingReservations.{comes}
 
--- the pending instruction that leaves a unit, and what it leaves to do
+-- the pending instruction that leaves a unit, and the work still to do for it
 unfoldable pub leaving : Unit {0}
 unfolding located enters outstanding_of entering seek
 leaving = tt
@@ -18,7 +18,7 @@ unfoldable pub coming : Unit {0}
 unfolding comes board.comes to_come board.to_come reservation_of board.to_come_in occupancy_of returning returning_to
 coming = tt
 
--- the places and the channels after an instruction has moved into the one of its rest
+-- the places and the channels after an instruction has moved into its place or its channel
 unfoldable pub moved_to_its_rest : Unit {0}
 unfolding places_with channels_with in_phase
 moved_to_its_rest = tt

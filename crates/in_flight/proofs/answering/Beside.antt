@@ -1,26 +1,22 @@
 -- The answers of board and hopper, compared with the list of pending instructions.
 use Rattle.std.proofs.Common.{◌≡◌, ◌<◌, ◌≤◌, ℕ, suc, Bool, true, false, cond, List, [], ◌∷◌, ◌++◌, Option, Some, None}
-use Rattle.std.proofs.Common.{refl, sym, ap, ◌∙◌, subst, eqb, get_or, arith, append-nil}
-use Rattle.std.specs.Prelude.{◌&&◌, ◌||◌, not, is_none, is_some, Result, Ok, Err, IfSome, replicate, unwrap_or}
+use Rattle.std.proofs.Common.{refl, sym, ap, ◌∙◌, subst, arith, append-nil}
+use Rattle.std.specs.Prelude.{◌&&◌, ◌||◌, not, is_none, is_some, Result, Ok, Err, IfSome, replicate}
 use Rattle.std.specs.List.{list_any}
-use Rattle.std.proofs.lemmas.Bool.{or_parts, eqb-true}
 use Rattle.std.proofs.lemmas.Option.{same_Some}
 use Rattle.instructions.specs.declared.instr.Instr.{Instr}
-use Rattle.instructions.specs.declared.instr.Reg.{Reg}
-use Rattle.instructions.specs.declared.instr.Reg.TheVariants.{X, B}
-use Rattle.instructions.specs.declared.instr.Unit.TheVariants.{Branch}
+use Rattle.instructions.specs.declared.instr.Reg.TheVariants.{X}
 use Rattle.instructions.specs.declared.instr.UnitKind.{UnitKind}
 use Rattle.instructions.specs.Operands.{uses}
 use Rattle.instructions.specs.declared.instr.Unit.{Unit as FunctionalUnit}
 use Rattle.instructions.specs.declared.refusal.Refusal.{Refusal}
 use Rattle.instructions.specs.declared.refusal.Refusal.TheVariants.{Nothing, HopperFull, UnitBusy, ResultReserved}
-use Rattle.instructions.specs.declared.refusal.Refusal.TheVariants.{ResultHeld}
 use Rattle.instructions.specs.Each.{Each, Pairs}
-use Rattle.instructions.specs.RegisterLists.{is_in, overlap}
-use Rattle.instructions.specs.Shape.{shape_of, results, is_branch_shape, has_store}
-use Rattle.instructions.proofs.Lists.{each_left, each_right, each_append, each_map, each_of_any, pairs_before, or_false}
+use Rattle.instructions.specs.RegisterLists.{overlap}
+use Rattle.instructions.specs.Shape.{shape_of, results, is_branch_shape}
+use Rattle.instructions.proofs.Lists.{each_left, each_right, each_append, each_map, each_of_any, pairs_before}
 use Rattle.instructions.proofs.Lists.{any_same}
-use Rattle.hopper.specs.Hopper.{first_place, free_place, stores_to}
+use Rattle.hopper.specs.Hopper.{first_place, free_place}
 use Rattle.hopper.specs.Queue.{Queue, stands_at, is_for, stores_here, place_for as free_in, is_taken as taken_in}
 use Rattle.hopper.specs.Queue.{free_answer}
 use Rattle.hopper.specs.declared.entered.Entered.{Entered}
@@ -31,7 +27,7 @@ use Rattle.scoreboard.specs.declared.reservation.Reservation.{Reservation}
 use Rattle.scoreboard.specs.Reservations as board
 use Rattle.scoreboard.specs.Reservations.{is_reserved, has_store_turn}
 use Rattle.scoreboard.specs.Conflicts as conflict
-use Rattle.scoreboard.specs.Units.{first_unit, same_unit, units_of}
+use Rattle.scoreboard.specs.Units.{first_unit}
 use Rattle.scoreboard.specs.Conflicts.{first_free, free_unit, is_held}
 use Rattle.scoreboard.specs.Issued.{reservation_of as reservation_of_issued}
 use Rattle.scoreboard.specs.Answers.{Standing, held_in, returning_by, unless, read_answer, store_answer, return_answer}
@@ -42,8 +38,7 @@ use Rattle.unit_ops.specs.declared.UnitValue.{UnitValue}
 use Rattle.sequential.specs.declared.fetching.Fetched.TheVariants.{Taking}
 use Rattle.sequential.specs.declared.position.ProgramPosition.{ProgramPosition as SomePosition}
 use Rattle.in_flight.specs.declared.pending.Arrival.{Arrival}
-use Rattle.hopper.specs.declared.reference.Reference.{Reference}
-use Rattle.in_flight.specs.declared.pending.Outstanding.TheVariants.{Entered as HasEntered, Accepted}
+use Rattle.in_flight.specs.declared.pending.Outstanding.TheVariants.{Accepted}
 use Rattle.in_flight.specs.declared.pending.Pending.{Pending}
 use Rattle.in_flight.specs.declared.pending.Phase.{Phase}
 use Rattle.in_flight.specs.declared.pending.Phase.TheVariants.{Before, After}
@@ -56,7 +51,7 @@ use Rattle.in_flight.specs.Tests.{return_tests, free_tests, reservation_tests, u
 use Rattle.in_flight.specs.Flight.{Flight, flight_of, reserved_in, with_pending}
 use Rattle.in_flight.specs.Lookup.{waiting_in, waiting}
 use Rattle.in_flight.specs.inner.Board.{IsTied}
-use Rattle.in_flight.specs.Pending.{has_read, reservation_of, occupancy_of, to_come, awaited, is_branch}
+use Rattle.in_flight.specs.Pending.{has_read, reservation_of, occupancy_of, awaited, is_branch}
 use Rattle.in_flight.specs.Pending.{has_turn}
 use Rattle.in_flight.specs.Pending.{stores_in, waits_in, delays_fetch, delays_access}
 use Rattle.in_flight.proofs.asking.PendingReservations.{comes}
@@ -73,7 +68,7 @@ use Rattle.in_flight.proofs.answering.Boarding.{turn_of_all}
 use Rattle.in_flight.proofs.answering.Boarding.{return_of_all, read_follows, stage_follows, return_follows}
 use Rattle.in_flight.proofs.answering.Boarding.{issue_follows, same_free, same_awaited}
 
--- ---- the one that was found ----
+-- ---- the found instruction ----
 
 pub there : {K : Type 0} (o : Option (Found Pending K)) (s : Located K) → located o ≡ Some s → (f : Found Pending K)
     × (o ≡ Some f) × (f.item ≡ s.pending) × (f.answer ≡ s.answer)
@@ -84,8 +79,7 @@ there (Some f) s h = (f, refl, ap (λ x. x.pending) (same_Some _ s h), ap (λ x.
 pub nothing_there : {K : Type 0} (o : Option (Found Pending K)) (g : Found Pending K → List Test) → located o ≡ None
     → refusal_of (tests_found o g) ≡ Some Nothing
 unfolding located refusal_of tests_found nothing
-nothing_there None g h = refl
-nothing_there (Some f) g h = cc
+nothing_there o g h = grind arith
 
 pub error_there : {T E : Type 0} (r : Result T E) → ((x : T) → r ≡ Ok x → ⊥) → (y : E) × (r ≡ Err y)
 error_there (Ok x) h = absurd (h x refl)
@@ -100,15 +94,13 @@ some_from (Some f) s b k e h = (f, refl)
 pub nobody_from : {K : Type 0} (o : Option (Found Pending K)) (s : Option (Located K)) (b : Bool) → s ≡ located o
     → is_some s ≡ not b → b ≡ true → o ≡ None
 unfolding located
-nobody_from None s b k e h = refl
-nobody_from (Some f) s b k e h = let q : true ≡ false = sym (ap is_some k) ∙ e ∙ ap not h in cc
+nobody_from o s b k e h = grind arith
 
 pub nothing_pending : (ms : List Pending) → has_none ms ≡ not (is_pending ms)
 unfolding has_none is_pending
-nothing_pending [] = refl
-nothing_pending (m ∷ ms) = refl
+nothing_pending ms = grind arith
 
--- ---- what the board sees of them ----
+-- ---- tests of the board and tests of the list ----
 
 no_branch : (reservation : Reservation) → reservation.occupancy ≡ Left None → board.is_branch reservation ≡ false
 unfolding board.is_branch is_reserved
@@ -116,9 +108,7 @@ no_branch reservation e = ap (λ p. is_reserved p && is_branch_shape (shape_of r
 
 no_store : (reservation : Reservation) → reservation.occupancy ≡ Left None → has_store_turn reservation ≡ false
 unfolding has_store_turn is_reserved
-no_store reservation e =
-    ap (λ p. (is_reserved p && has_store (shape_of reservation.instr)) && not (is_branch_shape (shape_of
-    reservation.instr))) e
+no_store reservation e = cc
 
 pub branch_held : (ms : List Pending) → list_any (λ x. board.is_branch x.reservation) (on_board ms)
     ≡ list_any is_branch ms
@@ -127,45 +117,27 @@ branch_held ms = board_any board.is_branch no_branch ms
 
 pub any-append : {K : Type 0} (f : K → Bool) (xs ys : List K) → list_any f (xs ++ ys) ≡ (list_any f xs || list_any f ys)
 any-append f [] ys = refl
-any-append f (x ∷ xs) ys = ap (λ b. f x || b) (any-append f xs ys) ∙ or_assoc (f x) (list_any f xs) (list_any f ys)
-  where
-    or_assoc : (a b c : Bool) → (a || (b || c)) ≡ ((a || b) || c)
-    or_assoc true b c = refl
-    or_assoc false b c = refl
+any-append f (x ∷ xs) ys = grind (arith, any-append f xs ys)
 
 -- a test of all waiting references, put as a test of phases
 waiting_any : (f : Entered → Bool) (g : Phase → Bool) → ((p : Phase) → list_any f (waiting_in p) ≡ g p)
     → (ms : List Pending) → list_any f (waiting ms) ≡ list_any (λ m. g m.phase) ms
 unfolding waiting
 waiting_any f g h [] = refl
-waiting_any f g h (m ∷ ms) = any-append f (waiting_in m.phase) (waiting ms)
-    ∙ ap (λ b. b || list_any f (waiting ms)) (h m.phase)
-    ∙ ap (λ b. g m.phase || b) (waiting_any f g h ms)
+waiting_any f g h (m ∷ ms) = grind (arith, waiting_any f g h ms, any-append)
 
 stores_in_phase : (a : ℕ) (p : Phase) → list_any (stores_here a) (waiting_in p) ≡ stores_in a p
 unfolding waiting_in stores_in stores_here
-stores_in_phase a (Before t) = refl
-stores_in_phase a (After (HasEntered place k access)) = or_false (stores_to a k access)
-stores_in_phase a (After (Accepted n w)) = refl
+stores_in_phase a p = grind arith
 
 waits_in_phase : (a : ℕ) (p : Phase) → list_any (is_for a) (waiting_in p) ≡ waits_in a p
 unfolding waiting_in waits_in is_for
-waits_in_phase a (Before t) = refl
-waits_in_phase a (After (HasEntered place k access)) = or_false (eqb k a)
-waits_in_phase a (After (Accepted n w)) = refl
+waits_in_phase a p = grind arith
 
 any_either : {K : Type 0} (f g : K → Bool) (xs : List K)
     → list_any (λ x. f x || g x) xs ≡ (list_any f xs || list_any g xs)
 any_either f g [] = refl
-any_either f g (x ∷ xs) =
-    ap (λ b. (f x || g x) || b) (any_either f g xs) ∙ exchange (f x) (g x) (list_any f xs) (list_any g xs)
-  where
-    exchange : (a b c d : Bool) → ((a || b) || (c || d)) ≡ ((a || c) || (b || d))
-    exchange true b c d = refl
-    exchange false true true d = refl
-    exchange false true false d = refl
-    exchange false false true d = refl
-    exchange false false false d = refl
+any_either f g (x ∷ xs) = grind (arith, any_either f g xs)
 
 -- a test of the board's reservations or of the hopper's references, put as a test of each pending instruction
 delayed_by : (t : Reservation → Bool) (f : Entered → Bool) (g : Phase → Bool)
@@ -196,7 +168,7 @@ unfolding delays_access
 access_delayed a ms queue standing tied =
     delayed_by board.has_turn (is_for a) (waits_in a) no_turn (waits_in_phase a) ms queue standing tied
 
--- ---- what waits in the hopper ----
+-- ---- the waiting references ----
 
 pub append-assoc : {K : Type 0} (xs ys zs : List K) → xs ++ (ys ++ zs) ≡ (xs ++ ys) ++ zs
 append-assoc [] ys zs = refl
@@ -205,14 +177,12 @@ append-assoc (x ∷ xs) ys zs = ap (λ l. x ∷ l) (append-assoc xs ys zs)
 pub waiting-append : (xs ys : List Pending) → waiting (xs ++ ys) ≡ waiting xs ++ waiting ys
 unfolding waiting
 waiting-append [] ys = refl
-waiting-append (m ∷ xs) ys = ap (λ l. waiting_in m.phase ++ l) (waiting-append xs ys)
-    ∙ append-assoc (waiting_in m.phase) (waiting xs) (waiting ys)
+waiting-append (m ∷ xs) ys = grind (arith, waiting-append xs ys, append-assoc)
 
 pub waiting_put : {K : Type 0} (f : Found Pending K) (xs : List Pending) → waiting (put_back f xs) ≡ waiting f.earlier
     ++ (waiting xs ++ waiting f.later)
 unfolding put_back
-waiting_put f xs =
-    waiting-append f.earlier (xs ++ f.later) ∙ ap (λ l. waiting f.earlier ++ l) (waiting-append xs f.later)
+waiting_put f xs = simp waiting-append
 
 pub waiting_around : {K : Type 0} (g : Pending → Option K) (ms : List Pending) (f : Found Pending K)
     → seek g ms ≡ Some f → waiting ms ≡ waiting f.earlier ++ (waiting_in f.item.phase ++ waiting f.later)
@@ -223,90 +193,63 @@ pub waiting_one : (m : Pending) → waiting (m ∷ []) ≡ waiting_in m.phase
 unfolding waiting
 waiting_one m = append-nil (waiting_in m.phase)
 
--- replacing an instruction by one that waits for the same reference leaves the hopper's list as it is
+-- the hopper's list is unchanged if an instruction is replaced by another with the same reference
 pub waiting_same : {K : Type 0} (g : Pending → Option K) (ms : List Pending) (f : Found Pending K) (xs : List Pending)
     → seek g ms ≡ Some f → waiting xs ≡ waiting_in f.item.phase → waiting (put_back f xs) ≡ waiting ms
-waiting_same g ms f xs h e =
-    waiting_put f xs ∙ ap (λ l. waiting f.earlier ++ (l ++ waiting f.later)) e ∙ sym (waiting_around g ms f h)
+waiting_same g ms f xs h e = grind (arith, waiting_put, waiting_around)
 
 staged_waits : (u : FunctionalUnit) (ms : List Pending) (f : Found Pending Stage) (t : Stage)
     → seek (stage_at u) ms ≡ Some f → waiting (put_back f (in_phase f.item (Before t) ∷ [])) ≡ waiting ms
 unfolding waiting_in in_phase
 staged_waits u ms f t h =
     let q = stage_found u f.item f.answer (seek_splits (stage_at u) ms f h).1 in
-    waiting_same (stage_at u) ms f (in_phase f.item (Before t) ∷ []) h
-    (waiting_one (in_phase f.item (Before t)) ∙ sym (ap waiting_in q))
+    grind (arith, waiting_same, waiting_one)
 
--- the numbers of the others, after an instruction was replaced
+-- a property of all instructions, after one was replaced
 pub each_put : {K : Type 0} (P : Pending → Type 0) (g : Pending → Option K) (ms : List Pending) (f : Found Pending K)
     (xs : List Pending) → seek g ms ≡ Some f → (P f.item → Each P xs) → Each P ms → Each P (put_back f xs)
 unfolding put_back
 each_put P g ms f xs h step k =
     let all = subst (Each P) (seek_splits g ms f h).0 k in
     let rest = each_right P f.earlier (f.item ∷ f.later) all in
-    each_append P f.earlier (xs ++ f.later) (each_left P f.earlier (f.item ∷ f.later) all)
-    (each_append P xs f.later (step rest.0) rest.1)
+    grind (arith, each_append, each_left)
 
 -- ---- places ----
 
 place_taken : (p : ℕ) (ms : List Pending) → list_any (stands_at p) (waiting ms) ≡ list_any (in_place p) ms
 unfolding waiting waiting_in entry_in stands_at in_place entry_at
 place_taken p [] = refl
-place_taken p (m ∷ ms) = any-append (stands_at p) (waiting_in m.phase) (waiting ms)
-    ∙ ap (λ b. b || list_any (stands_at p) (waiting ms)) (in_phase_of m)
-    ∙ ap (λ b. in_place p m || b) (place_taken p ms)
-  where
-    by_test : (b : Bool) (x : Reference) → (b || false) ≡ is_some (cond b (Some x) None)
-    by_test true x = refl
-    by_test false x = refl
-
-    in_it : (q : Phase) → list_any (stands_at p) (waiting_in q) ≡ is_some (entry_in p q)
-    in_it (Before t) = refl
-    in_it (After (HasEntered place k access)) = by_test (eqb place p) (record { address = k; access = access })
-    in_it (After (Accepted n w)) = refl
-
-    in_phase_of : (y : Pending) → list_any (stands_at p) (waiting_in y.phase) ≡ in_place p y
-    in_phase_of y = in_it y.phase
+place_taken p (m ∷ ms) = grind (arith, place_taken p ms)
 
 pub same_place : (ms : List Pending) → place_for ms ≡ free_place (λ p. list_any (in_place p) ms)
 unfolding free_in place_for free_place taken_in
-same_place ms =
-    first_same (taken_in (waiting ms)) (λ p. list_any (in_place p) ms) (λ p. place_taken p ms) (0 ∷ 1 ∷ 2 ∷ 3 ∷ [])
+same_place ms = grind (arith, first_same, place_taken)
 
 first_place_found : (taken : ℕ → Bool) (ps : List ℕ) (p : ℕ) → Each (λ q. q < 4) ps → first_place taken ps ≡ Some p
     → (taken p ≡ false) × (p < 4)
 unfolding first_place
 first_place_found taken [] p h e = cc
-first_place_found taken (q ∷ ps) p h e = by_test (taken q) refl e (first_place_found taken ps p h.1)
-  where
-    by_test : (t : Bool) → taken q ≡ t → cond t (first_place taken ps) (Some q) ≡ Some p
-        → (first_place taken ps ≡ Some p → (taken p ≡ false) × (p < 4)) → (taken p ≡ false) × (p < 4)
-    by_test true i k rest = rest k
-    by_test false i k rest = let g : q ≡ p = cc in (ap taken (sym g) ∙ i, let l : q < 4 = h.0 in omega (arith, l, g))
+first_place_found taken (q ∷ ps) p h e = grind (arith, first_place_found taken ps p h.1)
 
 pub place_found : (ms : List Pending) (p : ℕ) → place_for ms ≡ Some p → (list_any (in_place p) ms ≡ false) × (p < 4)
 unfolding free_place
-place_found ms p e = first_place_found (λ q. list_any (in_place q) ms) (0 ∷ 1 ∷ 2 ∷ 3 ∷ []) p
-    (omega arith, (omega arith, (omega arith, (omega arith, tt)))) (sym (same_place ms) ∙ e)
+place_found ms p e = grind (arith, first_place_found, same_place)
 
 -- ---- a store event ----
 
 test_fails : (a : Bool) (k r : Refusal) (ts : List Test) → unless a k ≡ Err r
     → refusal_of (record { fails = a; refusal = k } ∷ ts) ≡ Some r
 unfolding refusal_of
-test_fails true k r ts h = ap refusal_in h
-test_fails false k r ts h = cc
+test_fails a k r ts h = grind arith
 
 test_passes : (a : Bool) (k : Refusal) (x : Unit {0}) (ts : List Test) → unless a k ≡ Ok x
     → refusal_of (record { fails = a; refusal = k } ∷ ts) ≡ refusal_of ts
 unfolding refusal_of
-test_passes true k x ts h = cc
-test_passes false k x ts h = refl
+test_passes a k x ts h = grind arith
 
 test_is : (a : Bool) (k : Refusal) → refusal_of (record { fails = a; refusal = k } ∷ []) ≡ refusal_in (unless a k)
 unfolding refusal_of
-test_is true k = refl
-test_is false k = refl
+test_is a k = grind arith
 
 pub next_fails : (a : Bool) (k : Refusal) (ts : List Test) → a ≡ true
     → refusal_of (record { fails = a; refusal = k } ∷ ts) ≡ Some k
@@ -353,15 +296,7 @@ read_refused o = refusal_of (tests_found o (λ f. read_tests f.answer f.earlier 
 pub not_waiting : (o : Option (Found Pending Stage)) (s : Located Stage) → located o ≡ Some s → (s.answer ≡ Unread → ⊥)
     → read_refused o ≡ Some Nothing
 unfolding refusal_of tests_found read_tests nothing
-not_waiting o s h k =
-    let p = there o s h in
-    ap read_refused p.1 ∙ by_stage p.0 p.0.answer refl (λ e. k (sym p.3 ∙ e))
-  where
-    by_stage : (f : Found Pending Stage) (t : Stage) → f.answer ≡ t → (t ≡ Unread → ⊥)
-        → refusal_of (read_tests f.answer f.earlier f.item.instr) ≡ Some Nothing
-    by_stage f Unread e n = absurd (n refl)
-    by_stage f (Read os) e n = ap (λ t. refusal_of (read_tests t f.earlier f.item.instr)) e
-    by_stage f (Finished v) e n = ap (λ t. refusal_of (read_tests t f.earlier f.item.instr)) e
+not_waiting o s h k = grind (arith, there)
 
 pub read_answered : (u : FunctionalUnit) (ms : List Pending) (xs : List Issued) (s : Located Stage)
     (r : Result (Unit {0}) Refusal) → xs ≡ on_board ms → located (seek (stage_at u) ms) ≡ Some s → s.answer ≡ Unread
@@ -384,13 +319,11 @@ read_tied u ms ns queue b c s os h tied en ec =
     let made : ns ≡ put_back p.0 (in_phase p.0.item (Before (Read os)) ∷ []) =
     en ∙ ap (λ o. replaced o ms (λ m. in_phase m (Before (Read os)) ∷ [])) p.1 in
     record {
-      boarded = ap (λ (x : Standing). x.issued) ec ∙ ap (λ l. replaced (seek (held_in u) l) l read) tied.boarded
-          ∙ sym (read_follows u ms p.0 os p.1) ∙ ap on_board (sym made);
+      boarded = grind (arith, read_follows);
       entered = tied.entered ∙ sym (staged_waits u ms p.0 (Read os) p.1) ∙ ap waiting (sym made);
       counted = subst (λ l. Each (λ m. m.number ≤ l) ns) (sym (ap (λ (x : Standing). x.last) ec))
           (subst (Each (λ m. m.number ≤ b.last)) (sym made)
-          (each_put (λ m. m.number ≤ b.last) (stage_at u) ms p.0 (in_phase p.0.item (Before (Read os)) ∷ []) p.1
-          (λ k. (k, tt)) tied.counted));
+          (search each_put));
     }
 
 -- ---- a unit that finishes ----
@@ -406,37 +339,24 @@ finish_tied u ms ns queue b v (Some f) h k tied en =
       boarded = tied.boarded ∙ sym (stage_follows u ms f v h k) ∙ ap on_board (sym made);
       entered = tied.entered ∙ sym (staged_waits u ms f (Finished v) h) ∙ ap waiting (sym made);
       counted = subst (Each (λ m. m.number ≤ b.last)) (sym made)
-          (each_put (λ m. m.number ≤ b.last) (stage_at u) ms f (in_phase f.item (Before (Finished v)) ∷ []) h
-          (λ k. (k, tt)) tied.counted);
+          (search each_put);
     }
 
 -- ---- a load that returns ----
 
 returns_apart : (n w : ℕ) (e m : Pending) → m.phase ≡ After (Accepted n w) → IsApart e m → comes (X n) e ≡ false
 unfolding coming overlap
-returns_apart n w e m h a = (or_parts (is_in (to_come e) (X n)) false
-    (ap (λ p. overlap (board.to_come_in (shape_of m.instr) (occupancy_of p)) (to_come e)) (sym h) ∙ a.disjoint)).0
+returns_apart n w e m h a = grind arith
 
 none_awaits : (n w : ℕ) (es : List Pending) (m : Pending) → m.phase ≡ After (Accepted n w) → Each (λ e. IsApart e m) es
     → conflict.awaited reservation_of es (X n) ≡ false
 unfolding conflict.awaited comes
 none_awaits n w [] m h a = refl
-none_awaits n w (e ∷ es) m h a =
-    ap (λ b. b || conflict.awaited reservation_of es (X n)) (comes_is e ∙ returns_apart n w e m h a.0)
-    ∙ none_awaits n w es m h a.1
-  where
-    comes_is : (y : Pending) → board.comes (X n) (reservation_of y) ≡ comes (X n) y
-    comes_is y = refl
+none_awaits n w (e ∷ es) m h a = cc (none_awaits n w es m h a.1, returns_apart n w e m h a.0)
 
 in_channel : (n : ℕ) (p : Phase) (x : Arrival) → arrival_in n p ≡ Some x → x.channel ≡ n
 unfolding arrival_in
-in_channel n (Before t) x h = cc
-in_channel n (After (HasEntered place a access)) x h = cc
-in_channel n (After (Accepted m w)) x h = by_test (eqb m n) refl h
-  where
-    by_test : (b : Bool) → eqb m n ≡ b → cond b (Some (record { channel = m; word = w })) None ≡ Some x → x.channel ≡ n
-    by_test true e k = sym (ap (λ (y : Arrival). y.channel) (same_Some _ x k)) ∙ eqb-true m n e
-    by_test false e k = cc
+in_channel n p x h = grind arith
 
 pub arrival_phase : (n : ℕ) (m : Pending) (x : Arrival) → arrival_at n m ≡ Some x → m.phase ≡ After (Accepted n x.word)
 unfolding arrival_at
@@ -459,23 +379,14 @@ pub new_tied : (ms : List Pending) (queue : Queue) (b : Standing) → ms ≡ []
     → queue ≡ record { entered = []; busy = replicate 32 false } → b ≡ record { issued = []; last = 0 }
     → IsTied ms queue b
 unfolding on_board waiting
-new_tied ms queue b em eq eb = record {
-  boarded = ap (λ (x : Standing). x.issued) eb ∙ sym (ap on_board em);
-  entered = ap (λ (q : Queue). q.entered) eq ∙ sym (ap waiting em);
-  counted = subst (Each (λ m. m.number ≤ b.last)) (sym em) tt;
-}
+new_tied ms queue b em eq eb = grind arith
 
 -- ---- a bank that is free again ----
 
 pub free_answered : (busy : List Bool) (bank : ℕ)
     → refusal_of (free_tests busy bank) ≡ refusal_in (free_answer busy bank)
 unfolding refusal_of free_tests free_answer
-free_answered busy bank = by_test tt (get_or busy bank false)
-  where
-    by_test : (x : Unit {0}) (b : Bool)
-        → refusal_of (record { fails = not b; refusal = Nothing } ∷ []) ≡ refusal_in (cond b (Ok x) (Err Nothing))
-    by_test x true = refl
-    by_test x false = refl
+free_answered busy bank = grind arith
 
 pub full_is : (ms : List Pending) (queue : Queue) (b : Standing) → IsTied ms queue b
     → is_none (free_in queue.entered) ≡ is_none (place_for ms)
@@ -492,16 +403,7 @@ unfolding tests_found return_tests
 return_answered n ms xs s r e apart h k =
     let p = there (seek (arrival_at n) ms) s h in
     let q = seek_splits (arrival_at n) ms p.0 p.1 in
-    ap (λ o. refusal_of (tests_found o (λ f. return_tests f.earlier f.answer))) p.1
-    ∙ ap (λ c. refusal_of (record {
-      fails = conflict.to_be_read reservation_of p.0.earlier (X c);
-      refusal = ResultHeld
-          (X c);
-    }
-    ∷ [])) (arrival_channel n p.0.item p.0.answer q.1)
-    ∙ test_is (conflict.to_be_read reservation_of p.0.earlier (X n)) (ResultHeld (X n))
-    ∙ ap refusal_in (sym (k ∙ ap (λ l. return_answer n (seek (returning_by n) l)) e
-    ∙ return_of_all n ms p.0 p.1 (free_load n ms p.0 p.1 apart)))
+    search (arith, arrival_channel, test_is, return_of_all, free_load)
 
 pub return_tied : (n : ℕ) (ms ns : List Pending) (queue : Queue) (b c : Standing) (s : Located Arrival)
     → Pairs IsApart ms → located (seek (arrival_at n) ms) ≡ Some s → IsTied ms queue b
@@ -513,10 +415,8 @@ return_tied n ms ns queue b c s apart h tied en ec =
     let q = seek_splits (arrival_at n) ms p.0 p.1 in
     let made : ns ≡ put_back p.0 [] = en ∙ ap (λ o. replaced o ms (λ m. [])) p.1 in
     record {
-      boarded = ap (λ (x : Standing). x.issued) ec ∙ ap (λ l. replaced (seek (returning_by n) l) l gone) tied.boarded
-          ∙ sym (return_follows n ms p.0 p.1 (free_load n ms p.0 p.1 apart)) ∙ ap on_board (sym made);
-      entered = tied.entered ∙ sym (waiting_same (arrival_at n) ms p.0 [] p.1
-          (sym (ap waiting_in (arrival_phase n p.0.item p.0.answer q.1)))) ∙ ap waiting (sym made);
+      boarded = grind (arith, return_follows, free_load);
+      entered = grind (arith, waiting_same, arrival_phase);
       counted = subst (λ l. Each (λ m. m.number ≤ l) ns) (sym (ap (λ (x : Standing). x.last) ec))
           (subst (Each (λ m. m.number ≤ b.last)) (sym made)
           (each_put (λ m. m.number ≤ b.last) (arrival_at n) ms p.0 [] p.1 (λ k. tt) tied.counted));
@@ -525,26 +425,21 @@ return_tied n ms ns queue b c s apart h tied en ec =
 pub what_there : {K : Type 0} (o : Option (Found Pending K)) (s : Located K) → located o ≡ Some s
     → IfSome o (λ f. f.answer ≡ s.answer)
 unfolding located
-what_there None s h = cc
-what_there (Some f) s h = ap (λ x. x.answer) (same_Some _ s h)
+what_there o s h = grind arith
 
 -- a flight in which only the pending instructions changed
 pub changed_flight : (g : List Pending → List Pending) (ms ns : List Pending) (queue : Queue) (b c : Standing)
     (xs : List Issued) (f : Flight) → flight_of ms queue b ≡ f → ns ≡ g ms → c ≡ with_issued b xs
     → flight_of ns queue c ≡ with_pending f (g f.pending)
 unfolding with_issued
-changed_flight g ms ns queue b c xs f ef en ec =
-    ap (λ l. flight_of l queue c) en
-    ∙ ap (λ (x : Standing). record { pending = g ms; busy = queue.busy; last = x.last }) ec
-    ∙ ap (λ (y : Flight). with_pending y (g y.pending)) ef
+changed_flight g ms ns queue b c xs f ef en ec = cc
 
 -- ---- a reservation ----
 
 same_unit_for : (ms : List Pending) (kind : Option UnitKind)
     → conflict.unit_for reservation_of_issued (on_board ms) kind ≡ unit_for ms kind
 unfolding conflict.unit_for
-same_unit_for ms None = refl
-same_unit_for ms (Some kind) = same_free kind ms
+same_unit_for ms kind = grind (arith, same_free)
 
 reserve_refused : (ms : List Pending) (i : Instr) (b : Standing) (o : Option FunctionalUnit) → b.issued ≡ on_board ms
     → refusal_of (record { fails = is_none o; refusal = UnitBusy (first_unit (uses i).unit) }
@@ -554,26 +449,7 @@ reserve_refused : (ms : List Pending) (i : Instr) (b : Standing) (o : Option Fun
           (results (shape_of i)));
     } ∷ []) ≡ refusal_in (reserve_answer b i o)
 unfolding reserve_answer refusal_of
-reserve_refused ms i b None e = refl
-reserve_refused ms i b (Some u) e =
-    by_test (list_any (awaited ms) rs) (ResultReserved (conflict.first_such (awaited ms) rs)) (u, suc b.last)
-    ∙ sym (ap refusal_in (ap (λ xs. cond (list_any (conflict.awaited reservation_of_issued xs) rs)
-    (Err (ResultReserved (conflict.first_such (conflict.awaited reservation_of_issued xs) rs))) (Ok (u, suc b.last))) e
-    ∙ ap (λ t. cond t (Err (ResultReserved (conflict.first_such (conflict.awaited reservation_of_issued (on_board ms))
-    rs)))
-    (Ok (u, suc b.last))) (any_same (conflict.awaited reservation_of_issued (on_board ms)) (awaited ms) (same_awaited
-    ms)
-    rs)
-    ∙ ap (λ z. cond (list_any (awaited ms) rs) (Err (ResultReserved (unwrap_or z (B 0)))) (Ok (u, suc b.last)))
-    (find_same (conflict.awaited reservation_of_issued (on_board ms)) (awaited ms) (same_awaited ms) rs)))
-  where
-    rs : List Reg
-    rs = results (shape_of i)
-
-    by_test : (t : Bool) (k : Refusal) (p : FunctionalUnit × ℕ)
-        → cond t (Some k) None ≡ refusal_in (cond t (Err k) (Ok p))
-    by_test true k p = refl
-    by_test false k p = refl
+reserve_refused ms i b o e = grind (arith, any_same, same_awaited, find_same)
 
 pub reserve_answered : (ms : List Pending) (i : Instr) (place : SomePosition) (b : Standing)
     (r : Result (FunctionalUnit × ℕ) Refusal) → b.issued ≡ on_board ms
@@ -581,10 +457,7 @@ pub reserve_answered : (ms : List Pending) (i : Instr) (place : SomePosition) (b
     → refusal_of (reservation_tests ms (Taking i place)) ≡ refusal_in r
 unfolding reservation_tests
 reserve_answered ms i place b r e k =
-    reserve_refused ms i b (unit_for ms (uses i).unit) e
-    ∙ ap (λ o. refusal_in (reserve_answer b i o))
-    (sym (ap (λ xs. conflict.unit_for reservation_of_issued xs (uses i).unit) e ∙ same_unit_for ms (uses i).unit))
-    ∙ ap refusal_in (sym k)
+    cc (reserve_refused ms i b (unit_for ms (uses i).unit) e, same_unit_for ms (uses i).unit)
 
 pub unreserved : (b c : Standing) (i : Instr) (r : Result (FunctionalUnit × ℕ) Refusal) (k : Refusal)
     → c ≡ reserved b i r → r ≡ Err k → c ≡ b
@@ -602,56 +475,29 @@ ok_inj x y r e k = cc
 reserve_ok : (b : Standing) (i : Instr) (o : Option FunctionalUnit) (p : FunctionalUnit × ℕ)
     → reserve_answer b i o ≡ Ok p → (o ≡ Some p.0) × (p.1 ≡ suc b.last)
 unfolding reserve_answer
-reserve_ok b i None p h = cc
-reserve_ok b i (Some u) p h = by_test (list_any (conflict.awaited reservation_of_issued b.issued) (results (shape_of
-    i))) _ h
-  where
-    by_test : (t : Bool) (k : Refusal) → cond t (Err k) (Ok (u, suc b.last)) ≡ Ok p → (Some u ≡ Some p.0)
-        × (p.1 ≡ suc b.last)
-    by_test true k e = cc
-    by_test false k e =
-        let q = ok_inj (u, suc b.last) p (Ok (u, suc b.last)) refl e in (ap (λ x. Some x.0) q, ap (λ x. x.1) (sym q))
+reserve_ok b i o p h = search (arith, ok_inj)
 
 -- the unit and the number in the answer
 pub reserved_as : (ms : List Pending) (i : Instr) (b : Standing) (r : Result (FunctionalUnit × ℕ) Refusal)
     (p : FunctionalUnit × ℕ) → b.issued ≡ on_board ms
     → r ≡ reserve_answer b i (conflict.unit_for reservation_of_issued b.issued (uses i).unit) → r ≡ Ok p
     → (unit_for ms (uses i).unit ≡ Some p.0) × (p.1 ≡ suc b.last)
-reserved_as ms i b r p e k h =
-    let q = reserve_ok b i (conflict.unit_for reservation_of_issued b.issued (uses i).unit) p (sym k ∙ h) in (
-      sym (ap (λ xs. conflict.unit_for reservation_of_issued xs (uses i).unit) e ∙ same_unit_for ms (uses i).unit)
-          ∙ q.0,
-      q.1,
-    )
+reserved_as ms i b r p e k h = grind (arith, reserve_ok, same_unit_for)
 
 first_free_is : (held : FunctionalUnit → Bool) (us : List FunctionalUnit) (u : FunctionalUnit)
     → first_free held us ≡ Some u → held u ≡ false
 unfolding first_free
 first_free_is held [] u h = cc
-first_free_is held (v ∷ us) u h = by_test (held v) refl (first_free_is held us u) h
-  where
-    by_test : (t : Bool) → held v ≡ t → (first_free held us ≡ Some u → held u ≡ false)
-        → cond t (first_free held us) (Some v) ≡ Some u → held u ≡ false
-    by_test true e rest k = rest k
-    by_test false e rest k = ap held (sym (same_Some v u k)) ∙ e
+first_free_is held (v ∷ us) u h = grind (arith, first_free_is held us u)
 
 not_held : (u : FunctionalUnit) (m : Pending) → board.holds u (reservation_of m) ≡ false → stage_at u m ≡ None
 unfolding board.holds reservation_of stage_at stage_in is_reserved occupancy_of
-not_held u m h = by_phase m.phase (same_unit m.unit u) h
-  where
-    by_phase : (p : Phase) (t : Bool) → (t && is_reserved (occupancy_of p)) ≡ false → cond t (stage_in p) None ≡ None
-    by_phase (Before s) true k = cc
-    by_phase (Before s) false k = refl
-    by_phase (After l) true k = refl
-    by_phase (After l) false k = refl
+not_held u m h = grind arith
 
 pub unit_free : (ms : List Pending) (kind : Option UnitKind) (u : FunctionalUnit) → unit_for ms kind ≡ Some u
     → seek (stage_at u) ms ≡ None
 unfolding conflict.unit_for free_unit is_held
-unit_free ms None u h = cc
-unit_free ms (Some kind) u h =
-    seek_nobody (stage_at u) ms (each_of_any (λ m. board.holds u (reservation_of m)) (λ m. stage_at u m ≡ None)
-    (λ m k. not_held u m k) ms (first_free_is (is_held reservation_of ms) (units_of kind) u h))
+unit_free ms kind u h = grind (arith, seek_nobody, each_of_any, not_held, first_free_is)
 
 pub reserve_tied : (ms ns : List Pending) (queue : Queue) (b c : Standing) (i : Instr) (at : ℕ)
     (p : FunctionalUnit × ℕ) → IsTied ms queue b → p.1 ≡ suc b.last
@@ -659,18 +505,7 @@ pub reserve_tied : (ms ns : List Pending) (queue : Queue) (b c : Standing) (i : 
     ++ record { instr = i; at = at; number = p.1; unit = p.0; phase = Before Unread } ∷ [] → IsTied ns queue c
 unfolding waiting waiting_in
 reserve_tied ms ns queue b c i at p tied en ec es =
-    let m : Pending = record { instr = i; at = at; number = p.1; unit = p.0; phase = Before Unread } in
-    let last : c.last ≡ p.1 = ap (λ (x : Standing). x.last) ec in
-    record {
-      boarded = ap (λ (x : Standing). x.issued) ec ∙ ap (λ l. l ++ new_issued i p.0 p.1 ∷ []) tied.boarded
-          ∙ sym (issue_follows ms i at p.1 p.0) ∙ ap on_board (sym es);
-      entered = tied.entered ∙ sym (append-nil (waiting ms)) ∙ sym (waiting-append ms (m ∷ [])) ∙ ap waiting (sym es);
-      counted = subst (λ l. Each (λ y. y.number ≤ l) ns) (sym last)
-          (subst (Each (λ y. y.number ≤ p.1)) (sym es)
-          (each_append (λ y. y.number ≤ p.1) ms (m ∷ [])
-          (each_map (λ y. y.number ≤ b.last) (λ y. y.number ≤ p.1) (λ y k. omega (arith, k, en)) ms tied.counted)
-          (omega arith, tt)));
-    }
+    grind (arith, issue_follows, waiting-append, each_append, each_map, append-nil)
 
 pub all_below : (ms : List Pending) (last n : ℕ) → Each (λ m. m.number ≤ last) ms → n ≡ suc last
     → Each (λ m. m.number < n) ms
@@ -681,18 +516,4 @@ pub reserved_flight : (ms ns : List Pending) (queue : Queue) (b c : Standing) (i
     → c ≡ record { issued = b.issued ++ new_issued i p.0 p.1 ∷ []; last = p.1 } → ns ≡ ms
     ++ record { instr = i; at = at; number = p.1; unit = p.0; phase = Before Unread } ∷ []
     → flight_of ns queue c ≡ reserved_in (flight_of ms queue b) i at
-reserved_flight ms ns queue b c i at p eu en ec es =
-    ap (λ (x : Standing). record { pending = ns; busy = queue.busy; last = x.last }) ec
-    ∙ ap (λ l. record { pending = l; busy = queue.busy; last = p.1 }) es
-    ∙ ap (λ n. record {
-      pending = ms ++ record { instr = i; at = at; number = n; unit = p.0; phase = Before Unread }
-          ∷ [];
-      busy = queue.busy;
-      last = n;
-    }) en
-    ∙ ap (λ o. record {
-      pending = ms
-          ++ record { instr = i; at = at; number = suc b.last; unit = unwrap_or o Branch; phase = Before Unread } ∷ [];
-      busy = queue.busy;
-      last = suc b.last;
-    }) (sym eu)
+reserved_flight ms ns queue b c i at p eu en ec es = cc

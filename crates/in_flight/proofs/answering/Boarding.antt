@@ -1,13 +1,12 @@
 -- The list of pending instructions, and the part of it that the board has.
 use Rattle.std.proofs.Common.{◌≡◌, ℕ, Bool, true, false, cond, List, [], ◌∷◌, ◌++◌, Option, Some, None, refl, sym, ap}
-use Rattle.std.proofs.Common.{◌∙◌, subst, eqb}
-use Rattle.std.specs.Prelude.{◌&&◌, ◌||◌, unwrap_or}
+use Rattle.std.proofs.Common.{◌∙◌, subst, arith}
+use Rattle.std.specs.Prelude.{◌&&◌}
 use Rattle.std.specs.List.{list_any}
-use Rattle.std.proofs.lemmas.Bool.{eqb-true, eq-eqb, ne_eqb, or_parts, and_right}
-use Rattle.std.proofs.lemmas.Option.{same_Some}
+use Rattle.std.proofs.lemmas.Bool.{eq-eqb, or_parts}
 use Rattle.instructions.specs.declared.instr.Instr.{Instr}
 use Rattle.instructions.specs.declared.instr.Reg.{Reg}
-use Rattle.instructions.specs.declared.instr.Reg.TheVariants.{X, B}
+use Rattle.instructions.specs.declared.instr.Reg.TheVariants.{X}
 use Rattle.instructions.specs.declared.instr.Unit.{Unit as FunctionalUnit}
 use Rattle.instructions.specs.declared.instr.UnitKind.{UnitKind}
 use Rattle.instructions.specs.declared.refusal.Refusal.{Refusal}
@@ -22,7 +21,7 @@ use Rattle.scoreboard.specs.declared.reservation.Reservation.{Reservation}
 use Rattle.scoreboard.specs.Reservations.{is_reserved, returning_to, to_come, to_come_in, reads, reads_in, comes}
 use Rattle.scoreboard.specs.Reservations.{reads_it}
 use Rattle.scoreboard.specs.Reservations.{holds, has_turn}
-use Rattle.scoreboard.specs.Units.{same_unit, units_of}
+use Rattle.scoreboard.specs.Units.{same_unit}
 use Rattle.scoreboard.specs.Conflicts.{awaited, to_be_read, first_such, out_of_turn, is_held, free_unit}
 use Rattle.unit_ops.specs.declared.Operands.{Operands}
 use Rattle.unit_ops.specs.declared.UnitValue.{UnitValue}
@@ -30,13 +29,12 @@ use Rattle.scoreboard.specs.declared.issued.Issued.{Issued}
 use Rattle.scoreboard.specs.Answers.{held_in, returns_in, returning_by, new_issued, unless, read_answer, store_answer}
 use Rattle.scoreboard.specs.Answers.{return_answer, turn_answer, in_occupancy, read, left, left_with, gone}
 use Rattle.scoreboard.specs.Issued.{reservation_of as reservation_of_issued, channel_of}
-use Rattle.scoreboard.proofs.in_slots.Standing.{find_same}
 use Rattle.scoreboard.proofs.changing.Reserving.{first_free_same}
 use Rattle.instructions.specs.Each.{Each}
 use Rattle.in_flight.specs.declared.pending.Arrival.{Arrival}
 use Rattle.hopper.specs.declared.reference.Reference.{Reference}
 use Rattle.in_flight.specs.declared.pending.Outstanding.{Outstanding}
-use Rattle.in_flight.specs.declared.pending.Outstanding.TheVariants.{Entered, Accepted}
+use Rattle.in_flight.specs.declared.pending.Outstanding.TheVariants.{Accepted}
 use Rattle.in_flight.specs.declared.pending.Pending.{Pending}
 use Rattle.in_flight.specs.declared.pending.Phase.{Phase}
 use Rattle.in_flight.specs.declared.pending.Phase.TheVariants.{Before, After}
@@ -48,7 +46,6 @@ use Rattle.in_flight.specs.Lookup.{arrival_in, stage_in, stage_at, entry_at, arr
 use Rattle.in_flight.specs.inner.Board.{issued_of, kept_on, on_board}
 use Rattle.in_flight.specs.Pending.{left_to_return}
 use Rattle.instructions.proofs.Finding.{seek_splits, seek_around}
-use Rattle.instructions.proofs.Lists.{any_same}
 use Rattle.in_flight.proofs.asking.Finding.{stage_found, entry_in_found}
 
 -- the found instruction, as a search of the board finds it
@@ -67,13 +64,7 @@ found_on_board (Some f) = Some
 board-append : (xs ys : List Pending) → on_board (xs ++ ys) ≡ on_board xs ++ on_board ys
 unfolding on_board kept_on
 board-append [] ys = refl
-board-append (m ∷ xs) ys = by_occupancy (reservation_of m).occupancy (board-append xs ys)
-  where
-    by_occupancy : (p : Occupancy) → on_board (xs ++ ys) ≡ on_board xs ++ on_board ys
-        → kept_on p (on_board (xs ++ ys)) (issued_of m) ≡ kept_on p (on_board xs) (issued_of m) ++ on_board ys
-    by_occupancy (Reserved b) e = ap (λ l. issued_of m ∷ l) e
-    by_occupancy (Left (Some n)) e = ap (λ l. issued_of m ∷ l) e
-    by_occupancy (Left None) e = e
+board-append (m ∷ xs) ys = grind (arith, board-append xs ys)
 
 -- a test that is false for an instruction that has left the board
 pub board_any : (t : Reservation → Bool) → ((reservation : Reservation) → reservation.occupancy ≡ Left None
@@ -81,16 +72,7 @@ pub board_any : (t : Reservation → Bool) → ((reservation : Reservation) → 
     → list_any (λ x. t (reservation_of_issued x)) (on_board ms) ≡ list_any (λ m. t (reservation_of m)) ms
 unfolding on_board kept_on issued_of reservation_of_issued
 board_any t h [] = refl
-board_any t h (m ∷ ms) = by_occupancy (reservation_of m).occupancy refl (board_any t h ms)
-  where
-    by_occupancy : (p : Occupancy) → (reservation_of m).occupancy ≡ p
-        → list_any (λ x. t (reservation_of_issued x)) (on_board ms) ≡ list_any (λ x. t (reservation_of x)) ms
-        → list_any (λ x. t (reservation_of_issued x)) (kept_on p (on_board ms) (issued_of m))
-        ≡ (t (reservation_of m) || list_any (λ x. t (reservation_of x)) ms)
-    by_occupancy (Reserved b) e k = ap (λ b. t (reservation_of m) || b) k
-    by_occupancy (Left (Some n)) e k = ap (λ b. t (reservation_of m) || b) k
-    by_occupancy (Left None) e k = k ∙ ap (λ b. b || list_any (λ x. t (reservation_of x)) ms) (sym (h (reservation_of m)
-        e))
+board_any t h (m ∷ ms) = grind (arith, board_any t h ms)
 
 nothing_comes : (r : Reg) (reservation : Reservation) → reservation.occupancy ≡ Left None → comes r reservation ≡ false
 unfolding comes to_come to_come_in returning_to is_in
@@ -107,8 +89,7 @@ no_turn reservation e = ap (λ p. is_reserved p && has_reference (shape_of reser
 no_unit : (u : FunctionalUnit) (reservation : Reservation) → reservation.occupancy ≡ Left None
     → holds u reservation ≡ false
 unfolding holds is_reserved
-no_unit u reservation e = ap (λ p. same_unit reservation.unit u && is_reserved p) e
-    ∙ and_right (same_unit reservation.unit u) false refl
+no_unit u reservation e = grind arith
 
 pub same_awaited : (ms : List Pending) (r : Reg) → awaited reservation_of_issued (on_board ms) r
     ≡ awaited reservation_of ms r
@@ -131,11 +112,9 @@ same_held ms u = board_any (holds u) (no_unit u) ms
 pub same_free : (kind : UnitKind) (ms : List Pending)
     → free_unit reservation_of_issued (on_board ms) kind ≡ free_unit reservation_of ms kind
 unfolding free_unit
-same_free kind ms =
-    first_free_same (is_held reservation_of_issued (on_board ms)) (is_held reservation_of ms) (same_held ms) (units_of
-    kind)
+same_free kind ms = grind (arith, first_free_same, same_held)
 
--- ---- the one that holds a unit ----
+-- ---- the instruction that holds a unit ----
 
 kept_nothing : (l : List Issued) (x : Issued) → kept_on (Left None) l x ≡ l
 unfolding kept_on
@@ -144,28 +123,16 @@ kept_nothing l x = refl
 after_off : {K : Type 0} (m : Pending) (o : Option (Found Pending K)) → (reservation_of m).occupancy ≡ Left None
     → found_on_board (found_further m o) ≡ found_on_board o
 unfolding found_on_board found_further on_board
-after_off m None e = refl
-after_off m (Some f) e = ap (λ l. Some
-    (record { earlier = l; item = issued_of f.item; answer = f.item.instr; later = on_board f.later })) (ap
-    (λ p. kept_on p (on_board f.earlier) (issued_of m)) e ∙ kept_nothing (on_board f.earlier) (issued_of m))
+after_off m o e = grind (arith, kept_nothing)
 
 kept_here : (p : Occupancy) (l : List Issued) (x : Issued) → (p ≡ Left None → ⊥) → kept_on p l x ≡ x ∷ l
 unfolding kept_on
-kept_here (Reserved b) l x h = refl
-kept_here (Left (Some n)) l x h = refl
-kept_here (Left None) l x h = absurd (h refl)
+kept_here p l x h = grind arith
 
 after_on : {K : Type 0} (m : Pending) (o : Option (Found Pending K)) → ((reservation_of m).occupancy ≡ Left None → ⊥)
     → found_on_board (found_further m o) ≡ found_further (issued_of m) (found_on_board o)
 unfolding found_on_board found_further on_board
-after_on m None h = refl
-after_on m (Some f) h = ap (λ l. Some
-    (record {
-      earlier = l;
-      item = issued_of f.item;
-      answer = f.item.instr;
-      later = on_board f.later;
-    })) (kept_here (reservation_of m).occupancy (on_board f.earlier) (issued_of m) h)
+after_on m o h = grind (arith, kept_here)
 
 -- searching the board by reservation finds the same instruction as searching the pending instructions
 board_seek : {K : Type 0} (f : Pending → Option K) (g : Issued → Option Instr)
@@ -200,91 +167,53 @@ board_seek {K} f g pass fail stay (m ∷ ms) =
 unit_here_in : (u v : FunctionalUnit) (p : Phase) (t : Stage) → cond (same_unit v u) (stage_in p) None ≡ Some t
     → (same_unit v u && is_reserved (occupancy_of p)) ≡ true
 unfolding stage_in is_reserved occupancy_of
-unit_here_in u v (Before s) t h = by_test (same_unit v u) h
-  where
-    by_test : (b : Bool) → cond b (Some s) None ≡ Some t → (b && true) ≡ true
-    by_test true k = refl
-    by_test false k = cc
-unit_here_in u v (After l) t h = by_test (same_unit v u) h
-  where
-    by_test : (b : Bool) → cond b None None ≡ Some t → (b && false) ≡ true
-    by_test true k = cc
-    by_test false k = cc
+unit_here_in u v p t h = grind arith
 
 unit_not_in : (u v : FunctionalUnit) (p : Phase) → cond (same_unit v u) (stage_in p) None ≡ None
     → (same_unit v u && is_reserved (occupancy_of p)) ≡ false
 unfolding stage_in is_reserved occupancy_of
-unit_not_in u v (Before s) h = by_test (same_unit v u) h
-  where
-    by_test : (b : Bool) → cond b (Some s) None ≡ None → (b && true) ≡ false
-    by_test true k = cc
-    by_test false k = refl
-unit_not_in u v (After l) h = and_right (same_unit v u) false refl
+unit_not_in u v p h = grind arith
 
 unit_on_in : (b : Bool) (p : Phase) (t : Stage) → cond b (stage_in p) None ≡ Some t → occupancy_of p ≡ Left None → ⊥
 unfolding stage_in occupancy_of
-unit_on_in true (Before s) t h e = cc
-unit_on_in true (After l) t h e = cc
-unit_on_in false p t h e = cc
+unit_on_in b p t h e = grind arith
 
 pub unit_found : (u : FunctionalUnit) (ms : List Pending)
     → seek (held_in u) (on_board ms) ≡ found_on_board (seek (stage_at u) ms)
 unfolding held_in holds issued_of reservation_of stage_at
-unit_found u ms =
-    board_seek (stage_at u) (held_in u)
-    (λ m t h. ap (λ b. cond b (Some m.instr) None) (unit_here_in u m.unit m.phase t h))
-    (λ m h. ap (λ b. cond b (Some m.instr) None) (unit_not_in u m.unit m.phase h))
-    (λ m t h e. unit_on_in (same_unit m.unit u) m.phase t h e) ms
+unit_found u ms = search (arith, board_seek, unit_here_in, unit_not_in, unit_on_in)
 
--- ---- what the board answers ----
+-- ---- the board's answers ----
 
 unless_same : (f g : Reg → Bool) (rs : List Reg) (k : Reg → Refusal) → ((r : Reg) → f r ≡ g r)
     → unless (list_any f rs) (k (first_such f rs)) ≡ unless (list_any g rs) (k (first_such g rs))
-unless_same f g rs k h = ap (λ b. unless b (k (first_such f rs))) (any_same f g h rs)
-    ∙ ap (λ o. unless (list_any g rs) (k (unwrap_or o (B 0)))) (find_same f g h rs)
+unless_same f g rs k h = grind arith
 
 pub read_of_all : (u : FunctionalUnit) (ms : List Pending) (f : Found Pending Stage) → seek (stage_at u) ms ≡ Some f
     → read_answer (seek (held_in u) (on_board ms))
     ≡ unless (list_any (awaited reservation_of f.earlier) (sources_of f.item.instr))
     (OperandAwaited (first_such (awaited reservation_of f.earlier) (sources_of f.item.instr)))
 unfolding read_answer found_on_board issued_of reservation_of
-read_of_all u ms f h =
-    ap read_answer (unit_found u ms ∙ ap found_on_board h)
-    ∙ unless_same (awaited reservation_of_issued (on_board f.earlier)) (awaited reservation_of f.earlier) (sources_of
-    f.item.instr)
-    OperandAwaited (same_awaited f.earlier)
+read_of_all u ms f h = search (arith, unit_found, unless_same, same_awaited)
 
 pub store_of_all : (u : FunctionalUnit) (ms : List Pending) (f : Found Pending Stage) → seek (stage_at u) ms ≡ Some f
     → store_answer (seek (held_in u) (on_board ms))
     ≡ unless (list_any (to_be_read reservation_of f.earlier) (sets_of (shape_of f.item.instr)))
     (ResultHeld (first_such (to_be_read reservation_of f.earlier) (sets_of (shape_of f.item.instr))))
 unfolding store_answer found_on_board issued_of reservation_of
-store_of_all u ms f h =
-    ap store_answer (unit_found u ms ∙ ap found_on_board h)
-    ∙ unless_same (to_be_read reservation_of_issued (on_board f.earlier)) (to_be_read reservation_of f.earlier)
-    (sets_of (shape_of f.item.instr)) ResultHeld (same_to_be_read f.earlier)
+store_of_all u ms f h = search (arith, unit_found, unless_same, same_to_be_read)
 
 pub turn_of_all : (u : FunctionalUnit) (ms : List Pending) (f : Found Pending Stage) → seek (stage_at u) ms ≡ Some f
     → turn_answer (seek (held_in u) (on_board ms))
     ≡ unless (has_reference (shape_of f.item.instr) && out_of_turn reservation_of f.earlier) OutOfTurn
 unfolding turn_answer found_on_board issued_of reservation_of
-turn_of_all u ms f h =
-    ap turn_answer (unit_found u ms ∙ ap found_on_board h)
-    ∙ ap (λ b. unless (has_reference (shape_of f.item.instr) && b) OutOfTurn) (same_turn f.earlier)
+turn_of_all u ms f h = simp (unit_found, h, same_turn)
 
 -- ---- a load that returns ----
 
 pub arrival_in_there : (c : ℕ) (q : Phase) (x : Arrival) → arrival_in c q ≡ Some x → q ≡ After (Accepted c x.word)
 unfolding arrival_in
-arrival_in_there c (Before t) x h = cc
-arrival_in_there c (After (Entered slot a access)) x h = cc
-arrival_in_there c (After (Accepted n v)) x h = by_test (eqb n c) refl h
-  where
-    by_test : (b : Bool) → eqb n c ≡ b → cond b (Some (record { channel = n; word = v })) None ≡ Some x
-        → After (Accepted n v) ≡ After (Accepted c x.word)
-    by_test true e k = ap (λ m. After (Accepted m v)) (eqb-true n c e)
-        ∙ ap (λ (y : Arrival). After (Accepted c y.word)) (same_Some _ x k)
-    by_test false e k = cc
+arrival_in_there c q x h = grind arith
 
 arrival_occupancy : (c : ℕ) (m : Pending) (x : Arrival) → arrival_at c m ≡ Some x
     → (reservation_of m).occupancy ≡ Left (Some c)
@@ -300,12 +229,7 @@ not_that : (n m : ℕ) (e : Pending) → (reservation_of e).occupancy ≡ Left (
     → comes (X n) (reservation_of e) ≡ false
     → returning_by n (issued_of e) ≡ None
 unfolding returning_by returns_in issued_of comes to_come to_come_in returning_to is_in
-not_that n m e h k =
-    ap (λ p. cond (returns_in n p) (Some (reservation_of e).instr) None) h
-    ∙ ap (λ b. cond b (Some (reservation_of e).instr) None)
-    (ne_eqb m n (λ q. let z : (eqb n m || false)
-    ≡ false = sym (ap (λ p. is_in (to_come_in (shape_of (reservation_of e).instr) p) (X n)) h)
-    ∙ k in let y : (eqb n m || false) ≡ true = ap (λ b. b || false) (eq-eqb n m (sym q)) in cc))
+not_that n m e h k = grind arith
 
 silent_returns : (n : ℕ) (es : List Pending) → awaited reservation_of es (X n) ≡ false
     → Each (λ x. returning_by n x ≡ None) (on_board es)
@@ -326,17 +250,13 @@ silent_returns n (e ∷ es) h =
 returning_here : (n : ℕ) (m : Pending) (x : Arrival) → arrival_at n m ≡ Some x
     → returning_by n (issued_of m) ≡ Some m.instr
 unfolding returning_by returns_in issued_of reservation_of
-returning_here n m x h =
-    ap (λ p. cond (returns_in n p) (Some m.instr) None) (arrival_occupancy n m x h)
-    ∙ ap (λ b. cond b (Some m.instr) None) (eq-eqb n n refl)
+returning_here n m x h = grind (arith, arrival_occupancy, eq-eqb)
 
 -- the board's part of a list around one of its instructions
 board_around : (es : List Pending) (m : Pending) (ls : List Pending) → ((reservation_of m).occupancy ≡ Left None → ⊥)
     → on_board (es ++ m ∷ ls) ≡ on_board es ++ issued_of m ∷ on_board ls
 unfolding on_board
-board_around es m ls h =
-    board-append es (m ∷ ls) ∙ ap (λ l. on_board es ++ l) (kept_here (reservation_of m).occupancy (on_board ls)
-    (issued_of m) h)
+board_around es m ls h = simp (board-append, kept_here)
 
 -- a returning load, as a search of the board finds it
 pub return_found : (n : ℕ) (ms : List Pending) (f : Found Pending Arrival) → seek (arrival_at n) ms ≡ Some f
@@ -345,8 +265,7 @@ unfolding found_on_board
 return_found n ms f h k =
     let p = seek_splits (arrival_at n) ms f h in
     let q = arrival_occupancy n f.item f.answer p.1 in
-    ap (seek (returning_by n)) (ap on_board p.0
-    ∙ board_around f.earlier f.item f.later (λ z. let y : Left (Some n) ≡ Left None = sym q ∙ z in cc))
+    ap (seek (returning_by n)) (grind (arith, board_around))
     ∙ seek_around (returning_by n) (on_board f.earlier) (issued_of f.item) f.item.instr (on_board f.later)
     (silent_returns n f.earlier k) (returning_here n f.item f.answer p.1)
 
@@ -355,11 +274,9 @@ pub return_of_all : (n : ℕ) (ms : List Pending) (f : Found Pending Arrival) �
     → return_answer n (seek (returning_by n) (on_board ms))
     ≡ unless (to_be_read reservation_of f.earlier (X n)) (ResultHeld (X n))
 unfolding return_answer found_on_board
-return_of_all n ms f h k =
-    ap (return_answer n) (return_found n ms f h k)
-    ∙ ap (λ b. unless b (ResultHeld (X n))) (same_to_be_read f.earlier (X n))
+return_of_all n ms f h k = cc (return_found n ms f h k, same_to_be_read f.earlier (X n))
 
--- ---- what the board's calls follow ----
+-- ---- the list after the board's calls ----
 
 board_put : {K : Type 0} (f : Found Pending K) (xs : List Pending) → on_board (put_back f xs) ≡ on_board f.earlier
     ++ (on_board xs ++ on_board f.later)
@@ -380,12 +297,9 @@ pub read_follows : (u : FunctionalUnit) (ms : List Pending) (f : Found Pending S
     → seek (stage_at u) ms ≡ Some f
     → on_board (put_back f (in_phase f.item (Before (Read os)) ∷ []))
     ≡ replaced (seek (held_in u) (on_board ms)) (on_board ms) read
-read_follows u ms f os h =
-    board_put f (in_phase f.item (Before (Read os)) ∷ [])
-    ∙ ap (λ l. on_board f.earlier ++ (l ++ on_board f.later)) (read_put f.item os)
-    ∙ sym (unit_changed u ms f read h)
+read_follows u ms f os h = grind (arith, board_put, read_put, unit_changed)
 
--- a list in which the changed instruction answers as before
+-- a list in which the board's part of the changed instruction is unchanged
 same_put : {K : Type 0} (g : Pending → Option K) (ms : List Pending) (f : Found Pending K) (xs : List Pending)
     → seek g ms ≡ Some f → on_board xs ≡ on_board (f.item ∷ []) → on_board (put_back f xs) ≡ on_board ms
 same_put g ms f xs h e =
@@ -407,33 +321,17 @@ stage_follows u ms f v h e =
     let p = seek_splits (stage_at u) ms f h in
     let q : occupancy_of f.item.phase ≡ Reserved true =
     ap occupancy_of (stage_found u f.item f.answer p.1) ∙ ap Reserved e in
-    same_put (stage_at u) ms f (in_phase f.item (Before (Finished v)) ∷ []) h
-    (seen_alike (in_phase f.item (Before (Finished v))) f.item
-    (sym (ap (λ z. record {
-      number = f.item.number;
-      reservation = record { instr = f.item.instr; unit = f.item.unit; occupancy = z };
-    }) q)))
+    grind (arith, same_put, seen_alike)
 
 kept_put : (m : Pending) (l : Option Outstanding) → on_board (kept m l) ≡ left_with (issued_of m) (left_to_return l)
 unfolding on_board kept kept_on left_with issued_of reservation_of in_occupancy in_phase occupancy_of left_to_return
-kept_put m None = refl
-kept_put m (Some l) = by_register (returning l)
-  where
-    by_register : (o : Option ℕ) → kept_on (Left o) []
-        (record { number = m.number; reservation = record { instr = m.instr; unit = m.unit; occupancy = Left o } })
-        ≡ left_with (issued_of m) o
-    by_register None = refl
-    by_register (Some n) = refl
+kept_put m l = grind arith
 
 pub store_follows : (u : FunctionalUnit) (ms : List Pending) (f : Found Pending Stage) (l : Option Outstanding)
     → seek (stage_at u) ms ≡ Some f → left_to_return l ≡ channel_of (shape_of f.item.instr)
     → on_board (put_back f (kept f.item l)) ≡ replaced (seek (held_in u) (on_board ms)) (on_board ms) left
 unfolding left issued_of reservation_of
-store_follows u ms f l h e =
-    board_put f (kept f.item l)
-    ∙ ap (λ k. on_board f.earlier ++ (k ++ on_board f.later))
-    (kept_put f.item l ∙ ap (left_with (issued_of f.item)) e)
-    ∙ sym (unit_changed u ms f left h)
+store_follows u ms f l h e = cc (board_put f (kept f.item l), kept_put f.item l, unit_changed u ms f left h)
 
 pub load_follows : (p : ℕ) (ms : List Pending) (f : Found Pending Reference) (n w : ℕ)
     → seek (entry_at p) ms ≡ Some f → f.answer.access ≡ Load n
@@ -441,16 +339,7 @@ pub load_follows : (p : ℕ) (ms : List Pending) (f : Found Pending Reference) (
 unfolding entry_at issued_of reservation_of in_phase occupancy_of returning
 load_follows p ms f n w h e =
     let q = entry_in_found p f.item.phase f.answer (seek_splits (entry_at p) ms f h).1 in
-    same_put (entry_at p) ms f (in_phase f.item (After (Accepted n w)) ∷ []) h
-    (seen_alike (in_phase f.item (After (Accepted n w))) f.item
-    (sym (ap (λ z. record {
-      number = f.item.number;
-      reservation = record {
-        instr = f.item.instr;
-        unit = f.item.unit;
-        occupancy = occupancy_of z;
-      };
-    }) (q.1 ∙ ap (λ x. After (Entered q.0 f.answer.address x)) e))))
+    grind (arith, same_put, seen_alike)
 
 unseen : (m : Pending) → (reservation_of m).occupancy ≡ Left None → [] ≡ on_board (m ∷ [])
 unfolding on_board kept_on
@@ -461,8 +350,7 @@ pub stored_follows : (p : ℕ) (ms : List Pending) (f : Found Pending Reference)
 unfolding entry_at reservation_of occupancy_of returning on_board
 stored_follows p ms f w h e =
     let q = entry_in_found p f.item.phase f.answer (seek_splits (entry_at p) ms f h).1 in
-    same_put (entry_at p) ms f [] h
-    (unseen f.item (ap occupancy_of (q.1 ∙ ap (λ x. After (Entered q.0 f.answer.address x)) e)))
+    grind (arith, same_put, unseen)
 
 pub return_follows : (n : ℕ) (ms : List Pending) (f : Found Pending Arrival) → seek (arrival_at n) ms ≡ Some f
     → awaited reservation_of f.earlier (X n) ≡ false
@@ -476,5 +364,4 @@ pub issue_follows : (ms : List Pending) (i : Instr) (at number : ℕ) (u : Funct
     → on_board (ms ++ record { instr = i; at = at; number = number; unit = u; phase = Before Unread } ∷ [])
     ≡ on_board ms ++ new_issued i u number ∷ []
 unfolding on_board kept_on issued_of reservation_of occupancy_of has_read new_issued
-issue_follows ms i at number u =
-    board-append ms (record { instr = i; at = at; number = number; unit = u; phase = Before Unread } ∷ [])
+issue_follows ms i at number u = simp board-append

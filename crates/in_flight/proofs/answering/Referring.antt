@@ -1,27 +1,23 @@
 -- References that enter the hopper and that banks accept, compared with the list of pending instructions.
+use Rattle.std.proofs.lemmas.Bool.Decides.{nat_tests}
 use Rattle.std.proofs.Common.{◌≡◌, ◌≢◌, ◌<◌, ◌≤◌, ◌+◌, ℕ, Bool, true, false, cond, List, [], ◌∷◌, ◌++◌, Option, Some}
-use Rattle.std.proofs.Common.{None, refl, sym, ap, ◌∙◌, subst, eqb, ltb, get_or, set, length, arith, append-nil}
-use Rattle.std.specs.Prelude.{◌&&◌, ◌||◌, is_none, is_some, Result, Ok, Err, IfSome, unwrap_or}
+use Rattle.std.proofs.Common.{None, refl, sym, ap, ◌∙◌, subst, set, length, arith, append-nil}
+use Rattle.std.specs.Prelude.{◌&&◌, is_none, is_some, Result, Ok, Err, IfSome, unwrap_or}
 use Rattle.std.specs.List.{list_any}
-use Rattle.std.proofs.lemmas.Bool.{or_parts, eqb-true, eqb-false, eq-eqb, lt-ltb}
-use Rattle.std.proofs.lemmas.Option.{same_Some}
 use Rattle.instructions.specs.declared.instr.Reg.{Reg}
 use Rattle.instructions.specs.declared.instr.Reg.TheVariants.{X, A}
 use Rattle.instructions.specs.declared.instr.Unit.{Unit as FunctionalUnit}
 use Rattle.instructions.specs.declared.refusal.Refusal.{Refusal}
-use Rattle.instructions.specs.declared.refusal.Refusal.TheVariants.{BankBusy, OlderAtAddress, HopperFull}
 use Rattle.instructions.specs.Each.{Each, Pairs}
 use Rattle.instructions.specs.Finding.{Found as FoundIn, seek as seek_in, put_back as put_back_of, replaced, Found}
 use Rattle.instructions.specs.Finding.{seek, found_here, found_further, put_back}
 use Rattle.instructions.specs.RegisterLists.{is_in, overlap}
-use Rattle.instructions.specs.Shape.{Shape, Sets, Loads, Stores, Jumps, Links, shape_of, results, sets_of, loads_of}
+use Rattle.instructions.specs.Shape.{Shape, Loads, shape_of, results, sets_of, loads_of}
 use Rattle.instructions.specs.Shape.{has_reference}
-use Rattle.instructions.specs.Operands.{reg_eq}
 use Rattle.instructions.proofs.Lists.{any_right, each_append, each_map, each_of_any, pairs_before, pairs_right}
-use Rattle.instructions.proofs.Lists.{or_false}
 use Rattle.relocation.specs.declared.area.Access.{Access}
 use Rattle.relocation.specs.declared.area.Access.TheVariants.{Load, Store}
-use Rattle.hopper.specs.Hopper.{bank_of, keep_order}
+use Rattle.hopper.specs.Hopper.{bank_of}
 use Rattle.hopper.specs.Queue.{Queue, reference_at, holds_back as keeps_back, accept_answer, accepted}
 use Rattle.hopper.specs.Queue.{place_for as free_in, enter_answer}
 use Rattle.hopper.specs.declared.entered.Entered.{Entered}
@@ -30,8 +26,6 @@ use Rattle.scoreboard.specs.Reservations as board
 use Rattle.scoreboard.specs.Reservations.{is_reserved, returning_to}
 use Rattle.scoreboard.specs.Issued.{channel_of}
 use Rattle.scoreboard.specs.Answers.{Standing, held_in, left, with_issued}
-use Rattle.scoreboard.specs.Units.{unit_number}
-use Rattle.scoreboard.proofs.in_slots.InSlots.{unit_below}
 use Rattle.in_flight.specs.declared.flight.InFlight.TheInside.{Inside}
 use Rattle.in_flight.specs.declared.referring.Relocated.{Relocated}
 use Rattle.in_flight.specs.declared.pending.Outstanding.{Outstanding}
@@ -66,15 +60,7 @@ use Rattle.in_flight.proofs.asking.Slotting.{loads_channel, proper_there, placed
 
 entry_in_is : (p : ℕ) (q : Phase) (e : Reference) → entry_in p q ≡ Some e → q ≡ After (HasEntered p e.address e.access)
 unfolding entry_in
-entry_in_is p (Before t) e h = cc
-entry_in_is p (After (Accepted n w)) e h = cc
-entry_in_is p (After (HasEntered place a access)) e h = by_test (eqb place p) refl h
-  where
-    by_test : (b : Bool) → eqb place p ≡ b → cond b (Some (record { address = a; access = access })) None ≡ Some e
-        → After (HasEntered place a access) ≡ After (HasEntered p e.address e.access)
-    by_test true i k = ap (λ s. After (HasEntered s a access)) (eqb-true place p i)
-        ∙ ap (λ (y : Reference). After (HasEntered p y.address y.access)) (same_Some _ e k)
-    by_test false i k = cc
+entry_in_is p q e h = grind arith
 
 entry_phase : (p : ℕ) (m : Pending) (e : Reference) → entry_at p m ≡ Some e
     → m.phase ≡ After (HasEntered p e.address e.access)
@@ -83,38 +69,18 @@ entry_phase p m e h = entry_in_is p m.phase e h
 
 not_in_place : (p : ℕ) (q : Phase) → entry_in p q ≡ None → Each (λ e. reference_at p e ≡ None) (waiting_in q)
 unfolding entry_in waiting_in reference_at
-not_in_place p (Before t) h = tt
-not_in_place p (After (Accepted n w)) h = tt
-not_in_place p (After (HasEntered place a access)) h = by_test (eqb place p) h
-  where
-    entry : Reference
-    entry = record { address = a; access = access }
-
-    reference : Reference
-    reference = record { address = a; access = access }
-
-    by_test : (b : Bool) → cond b (Some entry) None ≡ None → (cond b (Some reference) None ≡ None) × Unit {0}
-    by_test true k = cc
-    by_test false k = (refl, tt)
+not_in_place p q h = grind arith
 
 none_waiting : (p : ℕ) (es : List Pending) → Each (λ m. entry_at p m ≡ None) es
     → Each (λ e. reference_at p e ≡ None) (waiting es)
 unfolding waiting entry_at
 none_waiting p [] h = tt
-none_waiting p (m ∷ es) h = each_append (λ e. reference_at p e ≡ None) (waiting_in m.phase) (waiting es)
-    (not_in_place p m.phase h.0) (none_waiting p es h.1)
+none_waiting p (m ∷ es) h = grind (arith, none_waiting p es h.1, each_append, not_in_place)
 
 seek_silent : {K : Type 0} (g : Pending → Option K) (ms : List Pending) → seek g ms ≡ None → Each (λ m. g m ≡ None) ms
 unfolding seek found_here found_further
 seek_silent g [] h = tt
-seek_silent {K} g (m ∷ ms) h = by_head (g m) refl (seek g ms) refl h (seek_silent g ms)
-  where
-    by_head : (o : Option K) → g m ≡ o → (rest : Option (Found Pending K)) → seek g ms ≡ rest
-        → found_here o m ms rest ≡ None → (seek g ms ≡ None → Each (λ y. g y ≡ None) ms) → (g m ≡ None)
-        × Each (λ y. g y ≡ None) ms
-    by_head (Some x) e rest er k ih = cc
-    by_head None e None er k ih = (e, ih er)
-    by_head None e (Some f) er k ih = cc
+seek_silent {K} g (m ∷ ms) h = grind (arith, seek_silent g ms)
 
 abbrev pub in_queue : ℕ → Found Pending Reference → FoundIn Entered Reference
 in_queue p f = record {
@@ -126,10 +92,7 @@ in_queue p f = record {
 
 stands_there : (p : ℕ) (r : Reference) → reference_at p (record { place = p; reference = r }) ≡ Some r
 unfolding reference_at
-stands_there p r = ap (λ b. cond b (Some r) None) (same_number p)
-  where
-    same_number : (n : ℕ) → eqb n n ≡ true
-    same_number n = eq-eqb n n refl
+stands_there p r = grind arith
 
 pub queue_found : (p : ℕ) (ms : List Pending) (f : Found Pending Reference) → seek (entry_at p) ms ≡ Some f
     → seek_in (reference_at p) (waiting ms) ≡ Some (in_queue p f)
@@ -150,25 +113,19 @@ queue_nobody p ms h = seek_nobody (reference_at p) (waiting ms) (none_waiting p 
 back_in : (r : Reference) (q : Phase)
     → list_any (keeps_back r) (waiting_in q) ≡ holds_back_in r.address r.access q
 unfolding waiting_in keeps_back holds_back_in
-back_in r (Before t) = refl
-back_in r (After (HasEntered place a x)) = or_false (keep_order r.address r.access a x)
-back_in r (After (Accepted n w)) = refl
+back_in r q = grind arith
 
 back_waits : (r : Reference) (es : List Pending)
     → list_any (keeps_back r) (waiting es) ≡ list_any (holds_back r.address r.access) es
 unfolding waiting holds_back
 back_waits r [] = refl
-back_waits r (m ∷ es) = any-append (keeps_back r) (waiting_in m.phase) (waiting es)
-    ∙ ap (λ b. b || list_any (keeps_back r) (waiting es)) (back_in r m.phase)
-    ∙ ap (λ b. holds_back_in r.address r.access m.phase || b) (back_waits r es)
+back_waits r (m ∷ es) = grind (arith, back_waits r es, any-append, back_in)
 
 tests_answer : (x y : Bool) (j k : Refusal) (r : Reference)
     → refusal_of (record { fails = x; refusal = j } ∷ record { fails = y; refusal = k } ∷ [])
     ≡ refusal_in (cond x (Err j) (cond y (Err k) (Ok r)))
 unfolding refusal_of
-tests_answer true y j k r = refl
-tests_answer false true j k r = refl
-tests_answer false false j k r = refl
+tests_answer x y j k r = grind arith
 
 none_answer : (busy : List Bool) → refusal_of nothing ≡ refusal_in (accept_answer busy None)
 unfolding refusal_of nothing accept_answer
@@ -177,32 +134,16 @@ none_answer busy = refl
 some_answer : (busy : List Bool) (p : ℕ) (f : Found Pending Reference)
     → refusal_of (accept_tests busy f.earlier f.answer) ≡ refusal_in (accept_answer busy (Some (in_queue p f)))
 unfolding accept_tests accept_answer
-some_answer busy p f =
-    tests_answer (get_or busy (bank_of f.answer.address) false)
-    (list_any (holds_back f.answer.address f.answer.access) f.earlier)
-    (BankBusy (bank_of f.answer.address)) OlderAtAddress f.answer
-    ∙ ap (λ y. refusal_in (cond (get_or busy (bank_of f.answer.address) false)
-    (Err (BankBusy (bank_of f.answer.address)))
-    (cond y (Err OlderAtAddress) (Ok f.answer)))) (sym (back_waits f.answer f.earlier))
+some_answer busy p f = grind (arith, tests_answer, back_waits)
 
 nothing_taken : (busy : List Bool) (r : Reference) → accept_answer busy None ≡ Ok r → ⊥
 unfolding accept_answer
 nothing_taken busy r h = cc
 
-ok_inj : (x y : Reference) (r : Result Reference Refusal) → r ≡ Ok x → r ≡ Ok y → x ≡ y
-ok_inj x y r e k = cc
-
 taken_is : (busy : List Bool) (f : FoundIn Entered Reference) (r : Reference) → accept_answer busy (Some f) ≡ Ok r
     → f.answer ≡ r
 unfolding accept_answer
-taken_is busy f r h = by_tests (get_or busy (bank_of f.answer.address) false)
-    (list_any (keeps_back f.answer) f.earlier) (BankBusy (bank_of f.answer.address)) h
-  where
-    by_tests : (x y : Bool) (j : Refusal) → cond x (Err j) (cond y (Err OlderAtAddress) (Ok f.answer)) ≡ Ok r
-        → f.answer ≡ r
-    by_tests true y j k = cc
-    by_tests false true j k = cc
-    by_tests false false j k = ok_inj f.answer r (Ok f.answer) refl k
+taken_is busy f r h = grind arith
 
 pub accept_answered : (p : ℕ) (ms : List Pending) (queue : Queue) (r : Result Reference Refusal)
     → queue.entered ≡ waiting ms → r ≡ accept_answer queue.busy (seek_in (reference_at p) queue.entered)
@@ -241,9 +182,7 @@ accept_found p ms queue a r e k h = by_found (seek (entry_at p) ms) refl
 pub entry_answered : (p : ℕ) (ms : List Pending) (f : Found Pending Reference) (r : Reference)
     → seek (entry_at p) ms ≡ Some f → f.answer ≡ r
     → IfSome (seek (entry_at p) ms) (λ x. x.answer ≡ record { address = r.address; access = r.access })
-entry_answered p ms f r h e =
-    subst (λ o. IfSome o (λ x. x.answer ≡ record { address = r.address; access = r.access })) (sym h)
-    (ap (λ (z : Reference). record { address = z.address; access = z.access }) e)
+entry_answered p ms f r h e = grind arith
 
 -- the place, address and channel of the reference
 pub entry_placed : (size p : ℕ) (ms : List Pending) (f : Found Pending Reference) → HasOwnSlots size ms
@@ -259,12 +198,7 @@ entry_placed size p ms f own_slots h =
 one_load : (n : ℕ) (rs ts : List Reg) (e l : Pending) → to_come e ≡ ts ++ X n ∷ [] → to_come l ≡ rs ++ X n ∷ []
     → IsApart e l → ⊥
 unfolding overlap is_in
-one_load n rs ts e l he hl a =
-    let k : overlap (rs ++ X n ∷ []) (ts ++ X n ∷ []) ≡ false =
-    sym (ap (λ z. overlap z (to_come e)) hl ∙ ap (overlap (rs ++ X n ∷ [])) he) ∙ a.disjoint in
-    let g = (or_parts (is_in (ts ++ X n ∷ []) (X n)) false (any_right (is_in (ts ++ X n ∷ [])) rs (X n ∷ []) k)).0 in
-    let f = or_parts (reg_eq (X n) (X n)) false (any_right (reg_eq (X n)) ts (X n ∷ []) g) in
-    eqb-false n n f.0 refl
+one_load n rs ts e l he hl a = grind (arith, nat_tests, any_right)
 
 coming_in : (n w : ℕ) (y : Pending) → y.phase ≡ After (Accepted n w) → to_come y ≡ X n ∷ []
 unfolding to_come board.to_come reservation_of board.to_come_in occupancy_of returning returning_to
@@ -295,9 +229,7 @@ referring_comes n p a y h = ap (λ q. board.to_come_in (shape_of y.instr) (occup
 referring_away : (n p a : ℕ) (x : Access) (y : Pending) → p < 4 → y.phase ≡ After (HasEntered p a x)
     → slot_of y ≢ 14 + n
 unfolding slot_of slot_in
-referring_away n p a x y b h k = let q : cond (ltb p 4) (10 + p) 22 ≡ 14 + n = sym (ap (slot_in y.unit) h)
-    ∙ k in let r : cond (ltb p 4) (10 + p) 22 ≡ 10 + p =
-    ap (λ t. cond t (10 + p) 22) (lt-ltb p 4 b) in omega (arith, b, q, r)
+referring_away n p a x y b h k = grind arith
 
 room_by : (memory : List ℕ) (p : ℕ) (ms : List Pending) (f : Found Pending Reference) (x : Access) → Pairs IsApart ms
     → HasOwnSlots (length memory) ms → seek (entry_at p) ms ≡ Some f → f.answer.access ≡ x
@@ -306,8 +238,7 @@ room_by memory p ms f (Store w) apart own_slots h e = tt
 room_by memory p ms f (Load n) apart own_slots h e =
     let q = seek_splits (entry_at p) ms f h in
     let placed : IsPlaced (length memory) f.item.unit (After (HasEntered p f.answer.address (Load n))) =
-    subst (λ (x : Access). IsPlaced (length memory) f.item.unit (After (HasEntered p f.answer.address x))) e
-    (entry_placed (length memory) p ms f own_slots h) in
+    grind (arith, entry_placed) in
     let here : f.item.phase ≡ After (HasEntered p f.answer.address (Load n)) =
     entry_phase p f.item f.answer q.1 ∙ ap (λ x. After (HasEntered p f.answer.address x)) e in
     let b : n < 8 = (let l : n < 6 = placed.2.1 in omega (arith, l)) in (
@@ -321,34 +252,28 @@ room_by memory p ms f (Load n) apart own_slots h e =
 pub room_for_word : (memory : List ℕ) (p : ℕ) (ms : List Pending) (f : Found Pending Reference) (r : Reference)
     (l : Option Outstanding) → Pairs IsApart ms → HasOwnSlots (length memory) ms → seek (entry_at p) ms ≡ Some f
     → f.answer ≡ r → l ≡ left_by memory r.address r.access → HasRoom l ms
-room_for_word memory p ms f r l apart own_slots h e el =
-    subst (λ z. HasRoom z ms) (sym (el ∙ sym (ap (λ (z : Reference). left_by memory z.address z.access) e)))
-    (room_by memory p ms f f.answer.access apart own_slots h refl)
+room_for_word memory p ms f r l apart own_slots h e el = grind (arith, room_by)
 
 taken_waits : (memory : List ℕ) (a : ℕ) (x : Access) (m : Pending) → waiting (kept m (left_by memory a x)) ≡ []
 unfolding kept waiting waiting_in in_phase
-taken_waits memory a (Load n) m = refl
-taken_waits memory a (Store w) m = refl
+taken_waits memory a x m = grind arith
 
 taken_boarded : (memory : List ℕ) (p : ℕ) (ms : List Pending) (f : Found Pending Reference) (x : Access)
     → seek (entry_at p) ms ≡ Some f → f.answer.access ≡ x
     → on_board (put_back f (kept f.item (left_by memory f.answer.address x))) ≡ on_board ms
 unfolding kept
-taken_boarded memory p ms f (Load n) h e = load_follows p ms f n (get_or memory f.answer.address 0) h e
-taken_boarded memory p ms f (Store w) h e = stored_follows p ms f w h e
+taken_boarded memory p ms f x h e = grind (arith, load_follows, stored_follows)
 
 each_kept : (n : ℕ) (m : Pending) (l : Option Outstanding) → m.number ≤ n → Each (λ y. y.number ≤ n) (kept m l)
 unfolding kept in_phase
-each_kept n m None h = tt
-each_kept n m (Some l) h = (h, tt)
+each_kept n m l h = grind arith
 
 queue_taken : (queue : Queue) (ms : List Pending) (p : ℕ) (f : Found Pending Reference) → queue.entered ≡ waiting ms
     → seek (entry_at p) ms ≡ Some f
     → accepted queue (seek_in (reference_at p) queue.entered)
     ≡ record { entered = waiting f.earlier ++ waiting f.later; busy = set queue.busy (bank_of f.answer.address) true }
 unfolding accepted put_back_of
-queue_taken queue ms p f e h =
-    ap (λ es. accepted queue (seek_in (reference_at p) es)) e ∙ ap (accepted queue) (queue_found p ms f h)
+queue_taken queue ms p f e h = cc (queue_found p ms f h)
 
 abbrev pub taken_from : ℕ → List ℕ → Reference → List Pending → List Pending
 taken_from p memory r ms = replaced (seek (entry_at p) ms) ms (λ m. kept m (left_by memory r.address r.access))
@@ -358,9 +283,7 @@ accept_made : (memory : List ℕ) (p : ℕ) (ms ns : List Pending) (f : Found Pe
     → l ≡ left_by memory r.address r.access → ns ≡ replaced (seek (entry_at p) ms) ms (λ m. kept m l)
     → ns ≡ put_back f (kept f.item (left_by memory f.answer.address f.answer.access))
 unfolding replaced
-accept_made memory p ms ns f r l h e el en =
-    en ∙ ap (λ o. replaced o ms (λ m. kept m l)) h
-    ∙ ap (λ z. put_back f (kept f.item z)) (el ∙ sym (ap (λ (z : Reference). left_by memory z.address z.access) e))
+accept_made memory p ms ns f r l h e el en = cc
 
 pub accept_tied : (memory : List ℕ) (p : ℕ) (ms ns : List Pending) (queue after : Queue) (b : Standing)
     (f : Found Pending Reference) (r : Reference) (l : Option Outstanding) → IsTied ms queue b
@@ -371,10 +294,7 @@ accept_tied memory p ms ns queue after b f r l tied h e el en eq =
     let made = accept_made memory p ms ns f r l h e el en in
     record {
       boarded = tied.boarded ∙ sym (taken_boarded memory p ms f f.answer.access h refl) ∙ ap on_board (sym made);
-      entered = ap (λ (q : Queue). q.entered) (eq ∙ queue_taken queue ms p f tied.entered h)
-          ∙ sym (waiting_put f (kept f.item (left_by memory f.answer.address f.answer.access))
-          ∙ ap (λ w. waiting f.earlier ++ (w ++ waiting f.later))
-          (taken_waits memory f.answer.address f.answer.access f.item)) ∙ ap waiting (sym made);
+      entered = grind (arith, queue_taken, waiting_put, taken_waits);
       counted = subst (Each (λ m. m.number ≤ b.last)) (sym made)
           (each_put (λ m. m.number ≤ b.last) (entry_at p) ms f
           (kept f.item (left_by memory f.answer.address f.answer.access)) h
@@ -391,22 +311,11 @@ pub accept_flight : (memory : List ℕ) (p : ℕ) (ms ns : List Pending) (queue 
       busy = set now.busy (bank_of r.address) true;
     }
 accept_flight memory p ms ns queue after b f r l now ev tied h e el en eq =
-    ap (λ (q : Queue). flight_of ns q b) (eq ∙ queue_taken queue ms p f tied.entered h)
-    ∙ ap (λ k. record { pending = k; busy = set queue.busy (bank_of f.answer.address) true; last = b.last })
-    (en ∙ ap (λ z. replaced (seek (entry_at p) ms) ms (λ m. kept m z)) el)
-    ∙ ap (λ (z : Reference). record {
-      pending = taken_from p memory r ms;
-      busy = set queue.busy (bank_of z.address) true;
-      last = b.last;
-    }) e
-    ∙ ap (λ (x : Flight). record x {
-      pending = taken_from p memory r x.pending;
-      busy = set x.busy (bank_of r.address) true;
-    }) ev
+    grind (arith, queue_taken queue ms p f tied.entered h)
 
--- ---- what a unit's instruction leaves ----
+-- ---- the reference of an instruction that leaves a unit ----
 
--- if the reference waits, the hopper's lowest free place is that of the list
+-- the lowest free place of the hopper is the lowest free place in the list
 pub later_is : (ms : List Pending) (queue : Queue) (rest : Option Relocated) (l : Option Outstanding)
     → queue.entered ≡ waiting ms → l ≡ outstanding_of (unwrap_or (free_in queue.entered) 0) rest
     → l ≡ outstanding_of (unwrap_or (place_for ms) 0) rest
@@ -416,22 +325,11 @@ later_is ms queue rest l e el = el ∙ ap (λ es. outstanding_of (unwrap_or (fre
 returns_alike : (place : ℕ) (rest : Option Relocated)
     → left_to_return (outstanding_of place rest) ≡ left_to_return (outstanding_of 0 rest)
 unfolding left_to_return outstanding_of entering returning
-returns_alike place None = refl
-returns_alike place (Some r) = by_parts r.address r.access
-  where
-    by_parts : (o : Option ℕ) (x : Access) → left_to_return (entering place o x) ≡ left_to_return (entering 0 o x)
-    by_parts (Some a) (Load n) = refl
-    by_parts (Some a) (Store w) = refl
-    by_parts None (Load n) = refl
-    by_parts None (Store w) = refl
+returns_alike place rest = grind arith
 
 loads_through : (h : Shape) (n : ℕ) → Some n ≡ channel_of h → h ≡ Loads n
 unfolding channel_of
-loads_through (Sets rs) n e = cc
-loads_through (Loads m) n e = ap Loads (same_Some m n (sym e))
-loads_through (Stores m) n e = cc
-loads_through Jumps n e = cc
-loads_through Links n e = cc
+loads_through h n e = grind arith
 
 load_comes : (m : Pending) (t : Stage) (n : ℕ) → m.phase ≡ Before t → shape_of m.instr ≡ Loads n
     → to_come m ≡ (A n ∷ []) ++ X n ∷ []
@@ -440,8 +338,7 @@ load_comes m t n h e = ap (λ p. board.to_come_in (shape_of m.instr) (occupancy_
 
 unit_away : (m : Pending) (t : Stage) (n : ℕ) → m.phase ≡ Before t → slot_of m ≢ 14 + n
 unfolding slot_of slot_in
-unit_away m t n h k = let q : unit_number m.unit ≡ 14 + n =
-    sym (ap (slot_in m.unit) h) ∙ k in let b = unit_below m.unit in omega (arith, b, q)
+unit_away m t n h k = grind arith
 
 place_away : (p : ℕ) (y : Pending) → p < 4 → in_place p y ≡ false → slot_of y ≢ 10 + p
 unfolding in_place
@@ -479,8 +376,7 @@ room_left : (u : FunctionalUnit) (ms : List Pending) (f : Found Pending Stage) (
     → (enters (outstanding_of 0 rest) ≡ true → is_none (place_for ms) ≡ false)
     → HasRoom (outstanding_of (unwrap_or (place_for ms) 0) rest) ms
 unfolding outstanding_of
-room_left u ms f None apart h is room = tt
-room_left u ms f (Some r) apart h is room = room_entering u ms f r.address r.access apart h is.returns room
+room_left u ms f rest apart h is room = grind (arith, room_entering)
 
 rest_of_found : (u : FunctionalUnit) (ms : List Pending) (f : Found Pending Stage) (rest : Option Relocated)
     → seek (stage_at u) ms ≡ Some f
@@ -492,9 +388,8 @@ rest_of_found u ms f rest h is = subst (λ o. IfSome (located o) (λ s. IsRestOf
 around : (u : FunctionalUnit) (ms : List Pending) (f : Found Pending Stage) → seek (stage_at u) ms ≡ Some f
     → waiting ms ≡ waiting f.earlier ++ waiting f.later
 unfolding waiting_in
-around u ms f h = waiting_around (stage_at u) ms f h
-    ∙ ap (λ p. waiting f.earlier ++ (waiting_in p ++ waiting f.later))
-    (stage_found u f.item f.answer (seek_splits (stage_at u) ms f h).1)
+around u ms f h =
+    rw (waiting_around (stage_at u) ms f h, stage_found u f.item f.answer (seek_splits (stage_at u) ms f h).1)
 
 pub room_for_rest : (u : FunctionalUnit) (ms : List Pending) (queue : Queue) (f : Found Pending Stage)
     (rest : Option Relocated) (l : Option Outstanding) → queue.entered ≡ waiting ms → Pairs IsApart ms
@@ -516,12 +411,7 @@ room_in_queue ms queue rest e room k = ap (λ es. is_none (free_in es)) e ∙ ro
 -- a reference in range enters the hopper
 pub enters_in_range : (r : Relocated) → enters (outstanding_of 0 (Some r)) ≡ is_some r.address
 unfolding enters outstanding_of entering
-enters_in_range r = by_parts r.address r.access
-  where
-    by_parts : (o : Option ℕ) (x : Access) → enters (entering 0 o x) ≡ is_some o
-    by_parts (Some a) x = refl
-    by_parts None (Load n) = refl
-    by_parts None (Store w) = refl
+enters_in_range r = grind arith
 
 -- without a reference, none enters
 pub none_enters : enters (outstanding_of 0 None) ≡ false
@@ -542,8 +432,7 @@ pub record HasCome (i j : Inside) (rest : Option Relocated) (l : Option Outstand
 
 entered_place : (o : Option ℕ) (r : Result ℕ Refusal) (p : ℕ) → r ≡ enter_answer o → r ≡ Ok p → o ≡ Some p
 unfolding enter_answer
-entered_place None r p e h = let k : Err HopperFull ≡ Ok p = sym e ∙ h in cc
-entered_place (Some q) r p e h = let k : Ok q ≡ Ok p = sym e ∙ h in cc
+entered_place o r p e h = grind arith
 
 pub has_entered : (i j : Inside) (rest : Option Relocated) (q : Relocated) (a p : ℕ) (r : Result ℕ Refusal)
     (queue : Queue) (l : Option Outstanding) → rest ≡ Some q → q.address ≡ Some a
@@ -553,77 +442,35 @@ pub has_entered : (i j : Inside) (rest : Option Relocated) (q : Relocated) (a p 
     } → l ≡ Some (HasEntered p a q.access) → j ≡ record { slots = i.slots; board = i.board; hopper = queue }
     → HasCome i j rest l
 unfolding outstanding_of entering queue_with waiting_in
-has_entered i j rest q a p r queue l er ei ea eo eq el ej = record {
-  left = el ∙ sym (ap (outstanding_of (unwrap_or (free_in i.hopper.entered) 0)) er
-      ∙ ap (λ o. entering (unwrap_or (free_in i.hopper.entered) 0) o q.access) ei
-      ∙ ap (λ o. Some (HasEntered (unwrap_or o 0) a q.access)) (entered_place (free_in i.hopper.entered) r p ea eo));
-  slots = ap (λ (k : Inside). k.slots) ej;
-  board = ap (λ (k : Inside). k.board) ej;
-  queue = ap (λ (k : Inside). k.hopper) ej ∙ eq ∙ sym (ap (queue_with i.hopper) el);
-}
+has_entered i j rest q a p r queue l er ei ea eo eq el ej = grind (arith, entered_place, queue_with)
 
 -- a hopper with room doesn't refuse a reference
 pub not_refused : (es : List Entered) (rest : Option Relocated) (q : Relocated) (a : ℕ) (r : Result ℕ Refusal)
     (refusal : Refusal) → rest ≡ Some q → q.address ≡ Some a → r ≡ enter_answer (free_in es) → r ≡ Err refusal → (enters (outstanding_of 0 rest) ≡ true → is_none (free_in es) ≡ false) → ⊥
 unfolding enter_answer
-not_refused es rest q a r refusal er ei ea eo room =
-    by_place (free_in es) ea (room (ap (λ z. enters (outstanding_of 0 z)) er ∙ enters_in_range q ∙ ap is_some ei))
-  where
-    by_place : (o : Option ℕ) → r ≡ enter_answer o → is_none o ≡ false → ⊥
-    by_place None e k = cc
-    by_place (Some p) e k = let h : Ok p ≡ Err refusal = sym e ∙ eo in cc
+not_refused es rest q a r refusal er ei ea eo room = grind (arith, enters_in_range)
 
 pub load_has_come : (i j : Inside) (rest : Option Relocated) (q : Relocated) (n word : ℕ) (l : Option Outstanding)
     → rest ≡ Some q → q.address ≡ None → q.access ≡ Load n → word ≡ 0 → l ≡ Some (Accepted n word) → j ≡ i
     → HasCome i j rest l
 unfolding outstanding_of entering queue_with waiting_in
-load_has_come i j rest q n word l er ei ex ew el ej = record {
-  left = el ∙ ap (λ w. Some (Accepted n w)) ew
-      ∙ sym (ap (outstanding_of (unwrap_or (free_in i.hopper.entered) 0)) er
-      ∙ ap (λ o. entering (unwrap_or (free_in i.hopper.entered) 0) o q.access) ei
-      ∙ ap (entering (unwrap_or (free_in i.hopper.entered) 0) None) ex);
-  slots = ap (λ (k : Inside). k.slots) ej;
-  board = ap (λ (k : Inside). k.board) ej;
-  queue = ap (λ (k : Inside). k.hopper) ej
-      ∙ sym (ap (queue_with i.hopper) el ∙ ap (λ es. record i.hopper { entered = es }) (append-nil i.hopper.entered));
-}
+load_has_come i j rest q n word l er ei ex ew el ej = grind (arith, queue_with, append-nil)
 
 pub store_has_gone : (i j : Inside) (rest : Option Relocated) (q : Relocated) (word : ℕ) (l : Option Outstanding)
     → rest ≡ Some q → q.address ≡ None → q.access ≡ Store word → l ≡ None → j ≡ i → HasCome i j rest l
 unfolding outstanding_of entering queue_with
-store_has_gone i j rest q word l er ei ex el ej = record {
-  left = el ∙ sym (ap (outstanding_of (unwrap_or (free_in i.hopper.entered) 0)) er
-      ∙ ap (λ o. entering (unwrap_or (free_in i.hopper.entered) 0) o q.access) ei
-      ∙ ap (entering (unwrap_or (free_in i.hopper.entered) 0) None) ex);
-  slots = ap (λ (k : Inside). k.slots) ej;
-  board = ap (λ (k : Inside). k.board) ej;
-  queue = ap (λ (k : Inside). k.hopper) ej ∙ sym (ap (queue_with i.hopper) el);
-}
+store_has_gone i j rest q word l er ei ex el ej = grind arith
 
 pub none_has_come : (i j : Inside) (rest : Option Relocated) (l : Option Outstanding) → rest ≡ None → l ≡ None
     → j ≡ i → HasCome i j rest l
 unfolding outstanding_of queue_with
-none_has_come i j rest l er el ej = record {
-  left = el ∙ sym (ap (outstanding_of (unwrap_or (free_in i.hopper.entered) 0)) er);
-  slots = ap (λ (k : Inside). k.slots) ej;
-  board = ap (λ (k : Inside). k.board) ej;
-  queue = ap (λ (k : Inside). k.hopper) ej ∙ sym (ap (queue_with i.hopper) el);
-}
+none_has_come i j rest l er el ej = grind arith
 
 -- ---- the references in the order in which they entered ----
 
 not_entered : (l m : Pending) → has_turn m ≡ true → IsApart m l → waiting_in l.phase ≡ []
 unfolding is_entered entered_in waiting_in
-not_entered l m h a = by_phase l.phase (and_right (entered_in l.phase) (has_turn m) a.in_turn h)
-  where
-    and_right : (x y : Bool) → (x && y) ≡ false → y ≡ true → x ≡ false
-    and_right true y k i = sym i ∙ k
-    and_right false y k i = refl
-
-    by_phase : (p : Phase) → entered_in p ≡ false → waiting_in p ≡ []
-    by_phase (Before t) k = refl
-    by_phase (After (HasEntered place a x)) k = cc
-    by_phase (After (Accepted n w)) k = refl
+not_entered l m h a = grind arith
 
 none_entered : (m : Pending) (ls : List Pending) → has_turn m ≡ true → Each (IsApart m) ls → waiting ls ≡ []
 unfolding waiting
@@ -642,9 +489,7 @@ queue_entering : (u : FunctionalUnit) (ms : List Pending) (queue : Queue) (f : F
 unfolding queue_with entering kept waiting_in in_phase enters waiting
 queue_entering u ms queue f place None (Store w) apart h refers e = e ∙ around u ms f h ∙ sym (waiting_put f [])
 queue_entering u ms queue f place None (Load n) apart h refers e =
-    append-nil queue.entered ∙ e ∙ around u ms f h ∙ sym (waiting_put f (in_phase f.item (After (Accepted n 0)) ∷ [])
-    ∙ ap (λ w. waiting f.earlier ++ (w ++ waiting f.later))
-    (waiting_one (in_phase f.item (After (Accepted n 0)))))
+    grind (arith, around, waiting_put, waiting_one, append-nil)
 queue_entering u ms queue f place (Some a) x apart h refers e =
     let q = seek_splits (stage_at u) ms f h in
     let m : Pending = in_phase f.item (After (HasEntered place a x)) in
@@ -655,8 +500,7 @@ queue_entering u ms queue f place (Some a) x apart h refers e =
     let r : Entered = record { place = place; reference = record { address = a; access = x } } in
     ap (λ es. es ++ r ∷ []) (e ∙ around u ms f h ∙ ap (λ w. waiting f.earlier ++ w) none
     ∙ append-nil (waiting f.earlier))
-    ∙ sym (waiting_put f (m ∷ []) ∙ ap (λ w. waiting f.earlier ++ (w ++ waiting f.later)) (waiting_one m)
-    ∙ ap (λ w. waiting f.earlier ++ (r ∷ w)) none)
+    ∙ sym (grind (arith, waiting_put, waiting_one))
 
 queue_left : (u : FunctionalUnit) (ms : List Pending) (queue : Queue) (f : Found Pending Stage) (place : ℕ)
     (rest : Option Relocated) → Pairs IsApart ms → seek (stage_at u) ms ≡ Some f
@@ -664,14 +508,11 @@ queue_left : (u : FunctionalUnit) (ms : List Pending) (queue : Queue) (f : Found
     → (queue_with queue (outstanding_of place rest)).entered
     ≡ waiting (put_back f (kept f.item (outstanding_of place rest)))
 unfolding queue_with outstanding_of kept waiting
-queue_left u ms queue f place None apart h is e = e ∙ around u ms f h ∙ sym (waiting_put f [])
-queue_left u ms queue f place (Some r) apart h is e =
-    queue_entering u ms queue f place r.address r.access apart h is.refers e
+queue_left u ms queue f place rest apart h is e = grind (arith, around, waiting_put, queue_entering)
 
 queue_busy : (queue : Queue) (l : Option Outstanding) → (queue_with queue l).busy ≡ queue.busy
 unfolding queue_with
-queue_busy queue None = refl
-queue_busy queue (Some l) = refl
+queue_busy queue l = grind arith
 
 pub leave_tied : (u : FunctionalUnit) (ms ns : List Pending) (queue after : Queue) (b c : Standing)
     (f : Found Pending Stage) (rest : Option Relocated) (l : Option Outstanding) → IsTied ms queue b → Pairs IsApart ms
@@ -690,12 +531,8 @@ leave_tied u ms ns queue after b c f rest l tied apart h is el en eq ec =
     let returns : left_to_return l ≡ channel_of (shape_of f.item.instr) =
     ap left_to_return where_it_waits ∙ returns_alike place rest ∙ of.returns in
     record {
-      boarded = ap (λ (x : Standing). x.issued) ec ∙ ap (λ l. replaced (seek (held_in u) l) l left) tied.boarded
-          ∙ sym (store_follows u ms f l h returns) ∙ ap on_board (sym made);
-      entered = ap (λ (q : Queue). q.entered) eq
-          ∙ ap (λ z. (queue_with queue z).entered) where_it_waits
-          ∙ queue_left u ms queue f place rest apart h of tied.entered
-          ∙ sym (ap (λ z. waiting (put_back f (kept f.item z))) where_it_waits) ∙ ap waiting (sym made);
+      boarded = grind (arith, store_follows);
+      entered = grind (arith, queue_with, queue_left);
       counted = subst (λ k. Each (λ m. m.number ≤ k) ns) (sym (ap (λ (x : Standing). x.last) ec))
           (subst (Each (λ m. m.number ≤ b.last)) (sym made)
           (each_put (λ m. m.number ≤ b.last) (stage_at u) ms f (kept f.item l) h (λ k. each_kept b.last f.item l k)
@@ -715,17 +552,9 @@ pub leave_flight : (u : FunctionalUnit) (ms ns : List Pending) (queue after : Qu
     → flight_of ns after c ≡ with_pending now (left_from u rest now.pending)
 unfolding with_issued
 leave_flight u ms ns queue after b c rest l now ev tied el en eq ec =
-    ap (λ k. flight_of k after c)
-    (en ∙ ap (λ z. replaced (seek (stage_at u) ms) ms (λ m. kept m z))
-    (later_is ms queue rest l tied.entered el))
-    ∙ ap (λ k. record { pending = left_from u rest ms; busy = k; last = c.last })
-    (ap (λ (q : Queue). q.busy) eq ∙ queue_busy queue l)
-    ∙ ap (λ (x : Standing). record { pending = left_from u rest ms; busy = queue.busy; last = x.last }) ec
-    ∙ ap (λ (x : Flight). with_pending x (left_from u rest x.pending)) ev
+    grind (arith, later_is ms queue rest l tied.entered el, queue_busy queue l)
 
 pub leave_nobody : (u : FunctionalUnit) (rest : Option Relocated) (now : Flight) → seek (stage_at u) now.pending ≡ None
     → now ≡ with_pending now (left_from u rest now.pending)
 unfolding replaced
-leave_nobody u rest now h = ap
-    (λ o. with_pending now (replaced o now.pending
-    (λ m. kept m (outstanding_of (unwrap_or (place_for now.pending) 0) rest)))) (sym h)
+leave_nobody u rest now h = grind arith

@@ -1,12 +1,11 @@
 -- The pending instruction that an event names, and the tests that it passed.
-use Rattle.std.proofs.Common.{◌≡◌, ℕ, Bool, true, false, cond, List, [], ◌∷◌, Some, None, refl, ap, eqb}
+use Rattle.std.proofs.Common.{◌≡◌, ℕ, Bool, true, false, cond, List, [], ◌∷◌, Some, None, ap, eqb, arith}
 use Rattle.std.proofs.lemmas.Option.{same_Some}
 use Rattle.instructions.specs.Each.{Each}
 use Rattle.instructions.specs.Finding.{Found}
 use Rattle.in_flight.specs.Tests.{Test, nothing, refusal_of}
 use Rattle.in_flight.specs.Lookup.{arrival_at, arrival_in, entry_at, entry_in, stage_at, stage_in, located}
 use Rattle.instructions.specs.declared.instr.Unit.{Unit as FunctionalUnit}
-use Rattle.scoreboard.specs.Units.{same_unit}
 use Rattle.in_flight.specs.declared.pending.Arrival.{Arrival}
 use Rattle.hopper.specs.declared.reference.Reference.{Reference}
 use Rattle.in_flight.specs.declared.pending.Outstanding.TheVariants.{Accepted, Entered}
@@ -20,12 +19,7 @@ use Rattle.in_flight.specs.declared.slots.Located.{Located}
 pub refusal_none : (ts : List Test) → refusal_of ts ≡ None → Each (λ t. t.fails ≡ false) ts
 unfolding refusal_of
 refusal_none [] h = tt
-refusal_none (t ∷ ts) h = head_first (refusal_none ts) t.fails refl h
-  where
-    head_first : (refusal_of ts ≡ None → Each (λ t. t.fails ≡ false) ts) → (f : Bool) → t.fails ≡ f
-        → cond f (Some t.refusal) (refusal_of ts) ≡ None → (t.fails ≡ false) × Each (λ t. t.fails ≡ false) ts
-    head_first rest true e k = cc
-    head_first rest false e k = (e, rest k)
+refusal_none (t ∷ ts) h = grind (arith, refusal_none ts)
 
 pub not_nothing : refusal_of nothing ≡ None → ⊥
 unfolding refusal_of nothing
@@ -46,16 +40,11 @@ no_sought s h = cc
 
 stage_in_found : (p : Phase) (t : Stage) → stage_in p ≡ Some t → p ≡ Before t
 unfolding stage_in
-stage_in_found (Before s) t h = ap Before (same_Some s t h)
-stage_in_found (After l) t h = cc
+stage_in_found p t h = grind arith
 
 pub stage_found : (u : FunctionalUnit) (m : Pending) (t : Stage) → stage_at u m ≡ Some t → m.phase ≡ Before t
 unfolding stage_at
-stage_found u m t h = by_test (same_unit m.unit u) h
-  where
-    by_test : (f : Bool) → cond f (stage_in m.phase) None ≡ Some t → m.phase ≡ Before t
-    by_test true k = stage_in_found m.phase t k
-    by_test false k = cc
+stage_found u m t h = grind (arith, stage_in_found)
 
 pub entry_in_found : (p : ℕ) (q : Phase) (e : Reference) → entry_in p q ≡ Some e → (slot : ℕ)
     × (q ≡ After (Entered slot e.address e.access))
@@ -77,14 +66,7 @@ entry_found p m e h = entry_in_found p m.phase e h
 pub arrival_in_found : (c : ℕ) (q : Phase) (x : Arrival) → arrival_in c q ≡ Some x
     → q ≡ After (Accepted x.channel x.word)
 unfolding arrival_in
-arrival_in_found c (Before t) x h = cc
-arrival_in_found c (After (Entered slot a access)) x h = cc
-arrival_in_found c (After (Accepted n v)) x h = by_test (eqb n c) h
-  where
-    by_test : (f : Bool) → cond f (Some (record { channel = n; word = v })) None ≡ Some x
-        → After (Accepted n v) ≡ After (Accepted x.channel x.word)
-    by_test true k = ap (λ (y : Arrival). After (Accepted y.channel y.word)) (same_Some _ x k)
-    by_test false k = cc
+arrival_in_found c q x h = grind arith
 
 pub arrival_found : (c : ℕ) (m : Pending) (x : Arrival) → arrival_at c m ≡ Some x
     → m.phase ≡ After (Accepted x.channel x.word)

@@ -1,8 +1,8 @@
 -- Facts about an instruction that follow from its phase alone.
-use Rattle.std.proofs.Common.{◌≡◌, ℕ, Bool, true, false, List, [], Option, Some, None, refl}
+use Rattle.std.proofs.Common.{◌≡◌, ℕ, Bool, false, List, [], Option, Some, None, arith}
 use Rattle.std.specs.Prelude.{◌+◌, ◌&&◌, ◌||◌, ◌==◌, not}
 use Rattle.instructions.specs.declared.instr.Reg.{Reg}
-use Rattle.instructions.specs.Shape.{Shape, shape_of, is_branch_shape, has_store}
+use Rattle.instructions.specs.Shape.{Shape, shape_of, has_store}
 use Rattle.relocation.specs.declared.area.Access.TheVariants.{Load as LoadInto, Store as StoreWord}
 use Rattle.hopper.specs.Hopper.{stores_to}
 use Rattle.scoreboard.specs.Reservations as reservation
@@ -52,22 +52,13 @@ slot_in unit (After (Accepted n word)) = 10 + n
 unfoldable pub slot_of : Pending → ℕ
 slot_of m = slot_in m.unit m.phase
 
-no_store : (f g x : Bool) → (((true && f) && not g) || x) ≡ false → (true && g) ≡ false → f ≡ false
-no_store false g x h k = refl
-no_store true true x h k = cc
-no_store true false x h k = cc
-
 may_store_none : (f g : Bool) (a : ℕ) (p : Phase)
     → (((is_reserved (occupancy_of p) && f) && not g) || stores_in a p) ≡ false
     → (is_reserved (occupancy_of p) && g) ≡ false → may_store_in f a p ≡ false
 unfolding occupancy_of is_reserved stores_in stores_to may_store_in
-may_store_none f g a (Before t) h k = no_store f g false h k
-may_store_none f g a (After (Entered place b (StoreWord w))) h k = h
-may_store_none f g a (After (Entered place b (LoadInto n))) h k = refl
-may_store_none f g a (After (Accepted n w)) h k = refl
+may_store_none f g a p h k = grind arith
 
 -- an instruction that delays no fetch of a word and is no branch doesn't store to that word
 pub stores_nothing : (a : ℕ) (m : Pending) → delays_fetch a m ≡ false → is_branch m ≡ false → may_store a m ≡ false
 unfolding delays_fetch is_branch reservation_of reservation.has_store_turn reservation.is_branch may_store
-stores_nothing a m h k =
-    may_store_none (has_store (shape_of m.instr)) (is_branch_shape (shape_of m.instr)) a m.phase h k
+stores_nothing a m h k = grind (arith, may_store_none)

@@ -1,15 +1,10 @@
 -- After each event every pending instruction has a slot of its own, so sixteen slots are enough.
-use Rattle.std.proofs.Common.{◌≡◌, ◌≢◌, ◌<◌, ◌≤◌, ℕ, false, List, [], ◌∷◌, ◌++◌, refl, sym, ap, ◌∙◌, subst, eqb, get_or}
-use Rattle.std.proofs.Common.{arith, Bool, true, cond, Some, None}
-use Rattle.std.proofs.lemmas.Bool.{eqb-false, ne_eqb, or_parts}
+use Rattle.std.proofs.Common.{◌≡◌, ◌≢◌, ◌<◌, ℕ, false, List, [], ◌∷◌, ◌++◌, refl, sym, ap, ◌∙◌, subst, eqb, get_or}
+use Rattle.std.proofs.Common.{arith, Bool}
 use Rattle.std.specs.List.{list_any}
-use Rattle.instructions.specs.declared.instr.Reg.TheVariants.{X, A}
 use Rattle.instructions.specs.declared.instr.Unit.{Unit as FunctionalUnit}
-use Rattle.instructions.specs.declared.instr.Unit.TheVariants.{Branch, Boolean, Shift, Add, LongAdd, Multiply1}
-use Rattle.instructions.specs.declared.instr.Unit.TheVariants.{Multiply2, Divide, Increment1, Increment2}
 use Rattle.instructions.specs.RegisterLists.{is_in, overlap}
-use Rattle.instructions.specs.Shape.{Shape, shape_of, Sets, Loads, Stores}
-use Rattle.instructions.specs.Operands.{reg_eq}
+use Rattle.instructions.specs.Shape.{Shape, shape_of, Loads}
 use Rattle.scoreboard.specs.Reservations as board
 use Rattle.scoreboard.specs.Reservations.{returning_to}
 use Rattle.scoreboard.specs.Units.{unit_number, same_unit}
@@ -25,15 +20,9 @@ use Rattle.instructions.proofs.Lists.{each_left, each_right, each_append, each_m
 use Rattle.instructions.proofs.Lists.{each_of_any, pairs_before, pairs_right, pairs_insert}
 use Rattle.in_flight.proofs.asking.Phases.{to_come_in, slot_in, slot_of}
 use Rattle.std.proofs.lemmas.Bool.Decides.{nat_tests}
-use Rattle.std.specs.Prelude.{nat_le, is_some}
 use Rattle.instructions.specs.declared.instr.Instr.{Instr}
-use Rattle.instructions.specs.declared.instr.Instr.TheVariants.{Stop, Pass, ReturnJump, Jump, BranchX, BranchB, Copy}
-use Rattle.instructions.specs.declared.instr.Instr.TheVariants.{Invert, Logical, ShiftBy, ShiftNominal}
-use Rattle.instructions.specs.declared.instr.Instr.TheVariants.{LongAdd as LongSum, Mask, CountOnes, Increment}
-use Rattle.instructions.specs.declared.instr.Target.TheVariants.{A as TargetA, B as TargetB, X as TargetX}
 use Rattle.relocation.specs.declared.area.Access.{Access}
 use Rattle.scoreboard.specs.Reservations as board
-use Rattle.hopper.specs.declared.reference.Reference.{Reference}
 use Rattle.in_flight.specs.declared.pending.Outstanding.{Outstanding}
 use Rattle.in_flight.specs.declared.pending.Stage.{Stage}
 use Rattle.in_flight.specs.Lookup.{entry_at, entry_in, in_place, in_phase}
@@ -46,16 +35,7 @@ number_at slot = get_or (0 ∷ 1 ∷ 2 ∷ 4 ∷ 7 ∷ 8 ∷ 9 ∷ []) slot 0
 
 number_of_slot : (u : FunctionalUnit) → unit_slot u < 7 → number_at (unit_slot u) ≡ unit_number u
 unfolding unit_slot
-number_of_slot Branch h = refl
-number_of_slot Boolean h = refl
-number_of_slot Shift h = refl
-number_of_slot Add h = absurd (omega (arith, h))
-number_of_slot LongAdd h = refl
-number_of_slot Multiply1 h = absurd (omega (arith, h))
-number_of_slot Multiply2 h = absurd (omega (arith, h))
-number_of_slot Divide h = refl
-number_of_slot Increment1 h = refl
-number_of_slot Increment2 h = refl
+number_of_slot u h = grind arith
 
 one_number : (u v : FunctionalUnit) → unit_slot u < 7 → unit_slot v < 7 → unit_slot u ≡ unit_slot v
     → unit_number u ≡ unit_number v
@@ -65,32 +45,17 @@ one_number u v h k e = sym (number_of_slot u h) ∙ ap number_at e ∙ number_of
 pub other_slot : (u v : FunctionalUnit) → unit_slot u < 7 → unit_slot v < 7 → same_unit u v ≡ false
     → eqb (unit_slot u) (unit_slot v) ≡ false
 unfolding same_unit
-other_slot u v h k e =
-    ne_eqb (unit_slot u) (unit_slot v) (λ i. eqb-false (unit_number u) (unit_number v) e (one_number u v h k i))
+other_slot u v h k e = grind (arith, nat_tests, one_number)
 
 channels_differ : (h k : Shape) (m n v w : ℕ)
     → overlap (to_come_in k (After (Accepted n w))) (to_come_in h (After (Accepted m v))) ≡ false → m ≢ n
 unfolding to_come_in board.to_come_in occupancy_of returning returning_to overlap is_in
-channels_differ h k m n v w e i =
-    let f = or_parts (reg_eq (X n) (X m)) false (or_parts (list_any (reg_eq (X n)) (X m ∷ [])) false e).0 in
-    eqb-false n m f.0 (sym i)
+channels_differ h k m n v w e i = grind arith
 
 slots_differ : (size : ℕ) (h k : Shape) (u v : FunctionalUnit) (p q : Phase) → IsPlaced size u p → IsPlaced size v q
     → clash_in u p v q ≡ false → overlap (to_come_in k q) (to_come_in h p) ≡ false → slot_in u p ≢ slot_in v q
 unfolding slot_in clash_in
-slots_differ size h k u v (Before t) (Before s) a b c d = λ e. eqb-false (unit_slot u) (unit_slot v) c e
-slots_differ size h k u v (Before t) (After (Entered q y z)) a b c d = λ e. omega (arith, a, e)
-slots_differ size h k u v (Before t) (After (Accepted n w)) a b c d = λ e. omega (arith, a, e)
-slots_differ size h k u v (After (Entered p x y)) (Before s) a b c d = λ e. omega (arith, b, e)
-slots_differ size h k u v (After (Accepted m w)) (Before s) a b c d = λ e. omega (arith, b, e)
-slots_differ size h k u v (After (Entered p x y)) (After (Entered q z r)) a b c d =
-    λ e. eqb-false p q c (omega (arith, e))
-slots_differ size h k u v (After (Entered p x y)) (After (Accepted n w)) a b c d =
-    λ e. let l : p < 4 = a.0 in let g : 0 < n = b.0 in omega (arith, e, l, g)
-slots_differ size h k u v (After (Accepted m w)) (After (Entered q z r)) a b c d =
-    λ e. let l : q < 4 = b.0 in let g : 0 < m = a.0 in omega (arith, e, l, g)
-slots_differ size h k u v (After (Accepted m w)) (After (Accepted n x)) a b c d =
-    λ e. channels_differ h k m n w x d (omega (arith, e))
+slots_differ size h k u v p q a b c d = grind (arith, channels_differ)
 
 pub coming : (m n : Pending) → overlap (to_come n) (to_come m) ≡ false
     → overlap (to_come_in (shape_of n.instr) n.phase) (to_come_in (shape_of m.instr) m.phase) ≡ false
@@ -100,8 +65,7 @@ coming m n e = e
 two_slots : (size : ℕ) (m n : Pending) → IsProper size m → IsProper size n → clash m n ≡ false → IsApart m n
     → slot_of m ≢ slot_of n
 unfolding slot_of clash
-two_slots size m n a b c d = slots_differ size (shape_of m.instr) (shape_of n.instr) m.unit n.unit m.phase n.phase
-    a.placed b.placed c (coming m n d.disjoint)
+two_slots size m n a b c d = search (slots_differ, coming)
 
 pub all_slots : (size : ℕ) (ms : List Pending) → Each (IsProper size) ms → Pairs (λ m n. clash m n ≡ false) ms
     → Pairs IsApart ms → Pairs (λ m n. slot_of m ≢ slot_of n) ms
@@ -109,8 +73,7 @@ all_slots size [] a b c = tt
 all_slots size (m ∷ ms) a b c = (
   each_both (λ n. IsProper size n × (clash m n ≡ false)) (IsApart m) (λ n. slot_of m ≢ slot_of n)
       (λ n x y. two_slots size m n a.0 x.0 x.1 y) ms
-      (each_both (IsProper size) (λ n. clash m n ≡ false) (λ n. IsProper size n × (clash m n ≡ false))
-      (λ n x y. (x, y)) ms a.1 b.0) c.0,
+      (grind (arith, each_both)) c.0,
   all_slots size ms a.1 b.1 c.1,
 )
 
@@ -118,22 +81,14 @@ all_slots size (m ∷ ms) a b c = (
 
 pub slotted_without : (size : ℕ) (es : List Pending) (m : Pending) (ls : List Pending) → HasOwnSlots size (es ++ m ∷ ls)
     → HasOwnSlots size (es ++ ls)
-slotted_without size es m ls s = record {
-  apart = pairs_without (λ m n. clash m n ≡ false) es m ls s.apart;
-  proper = each_append (IsProper size) es ls (each_left (IsProper size) es (m ∷ ls) s.proper)
-      (each_right (IsProper size) es (m ∷ ls) s.proper).1;
-}
+slotted_without size es m ls s = grind (arith, pairs_without, each_append, each_left, each_right)
 
 pub slotted_with : (size : ℕ) (es : List Pending) (m n : Pending) (ls : List Pending) → HasOwnSlots size (es ++ m ∷ ls)
     → IsProper size n → Each (λ x. clash x n ≡ false) es → Each (λ x. clash n x ≡ false) ls
     → HasOwnSlots size (es ++ n ∷ ls)
 slotted_with size es m n ls s p before after =
     let rest = slotted_without size es m ls s in
-    record {
-      apart = pairs_insert (λ m n. clash m n ≡ false) es n ls rest.apart before after;
-      proper = each_append (IsProper size) es (n ∷ ls) (each_left (IsProper size) es ls rest.proper)
-          (p, each_right (IsProper size) es ls rest.proper);
-    }
+    grind (arith, pairs_insert, each_append, each_left, each_right)
 
 pub proper_there : (size : ℕ) (es : List Pending) (m : Pending) (ls : List Pending) → HasOwnSlots size (es ++ m ∷ ls)
     → IsProper size m
@@ -144,13 +99,11 @@ placed_in size m p e h = subst (IsPlaced size m.unit) e h.placed
 
 stage_right : (u v : FunctionalUnit) (p : Phase) (t s : Stage) → clash_in u p v (Before t) ≡ clash_in u p v (Before s)
 unfolding clash_in
-stage_right u v (Before x) t s = refl
-stage_right u v (After l) t s = refl
+stage_right u v p t s = grind arith
 
 stage_left : (u v : FunctionalUnit) (p : Phase) (t s : Stage) → clash_in u (Before t) v p ≡ clash_in u (Before s) v p
 unfolding clash_in
-stage_left u v (Before x) t s = refl
-stage_left u v (After l) t s = refl
+stage_left u v p t s = grind arith
 
 clash_right : (x m : Pending) (t s : Stage) → m.phase ≡ Before t → clash x (in_phase m (Before s)) ≡ clash x m
 unfolding clash in_phase
@@ -179,39 +132,15 @@ unfoldable pub taken_by : Outstanding → Pending → Bool
 taken_by (Entered p a access) m = in_place p m
 taken_by (Accepted n w) m = false
 
-other_place : (p q a : ℕ) (access : Access)
-    → is_some {T = Reference} (cond (eqb q p) (Some (record { address = a; access = access })) None) ≡ false
-    → eqb q p ≡ false
-other_place p q a access h = by_test (eqb q p) h
-  where
-    by_test : (b : Bool) → is_some {T = Reference} (cond b (Some (record { address = a; access = access })) None)
-        ≡ false
-        → b ≡ false
-    by_test true k = cc
-    by_test false k = refl
-
 after_right : (u v : FunctionalUnit) (q : Phase) (l : Outstanding) (m : Pending) → m.phase ≡ q → taken_by l m ≡ false
     → clash_in u q v (After l) ≡ false
 unfolding clash_in taken_by in_place entry_at entry_in
-after_right u v (Before t) l m e h = refl
-after_right u v (After (Entered q a x)) (Entered p b y) m e h =
-    other_place p q a x (ap (λ k. is_some (entry_in p k)) (sym e) ∙ h)
-after_right u v (After (Entered q a x)) (Accepted n w) m e h = refl
-after_right u v (After (Accepted k z)) (Entered p b y) m e h = refl
-after_right u v (After (Accepted k z)) (Accepted n w) m e h = refl
-
-flip : (p q : ℕ) → eqb q p ≡ false → eqb p q ≡ false
-flip p q h = ne_eqb p q (λ i. eqb-false q p h (sym i))
+after_right u v q l m e h = grind arith
 
 after_left : (u v : FunctionalUnit) (q : Phase) (l : Outstanding) (m : Pending) → m.phase ≡ q → taken_by l m ≡ false
     → clash_in v (After l) u q ≡ false
 unfolding clash_in taken_by in_place entry_at entry_in
-after_left u v (Before t) l m e h = refl
-after_left u v (After (Entered q a x)) (Entered p b y) m e h =
-    flip p q (other_place p q a x (ap (λ k. is_some (entry_in p k)) (sym e) ∙ h))
-after_left u v (After (Entered q a x)) (Accepted n w) m e h = refl
-after_left u v (After (Accepted k z)) (Entered p b y) m e h = refl
-after_left u v (After (Accepted k z)) (Accepted n w) m e h = refl
+after_left u v q l m e h = grind arith
 
 proper_after : (size : ℕ) (m : Pending) (l : Outstanding) → IsProper size m → IsPlaced size m.unit (After l)
     → IsProper size (in_phase m (After l))
@@ -231,10 +160,8 @@ pub slotted_after : (size : ℕ) (es : List Pending) (m : Pending) (ls : List Pe
     → HasOwnSlots size (es ++ in_phase m (After l) ∷ ls)
 slotted_after size es m ls l p free h =
     slotted_with size es m (in_phase m (After l)) ls h (proper_after size m l (proper_there size es m ls h) p)
-    (each_map (λ x. taken_by l x ≡ false) (λ x. clash x (in_phase m (After l)) ≡ false)
-    (λ x k. clash_after_right x m l k) es (each_left (λ x. taken_by l x ≡ false) es (m ∷ ls) free))
-    (each_map (λ x. taken_by l x ≡ false) (λ x. clash (in_phase m (After l)) x ≡ false)
-    (λ x k. clash_after_left x m l k) ls (each_right (λ x. taken_by l x ≡ false) es (m ∷ ls) free).1)
+    (grind (arith, each_map, clash_after_right, each_left))
+    (grind (arith, each_map, clash_after_left, each_right))
 
 each_false : (ms : List Pending) → Each (λ x. false ≡ false) ms
 each_false [] = tt
@@ -251,33 +178,4 @@ entered_free p a access ms h = each_of_any (in_place p) (λ x. in_place p x ≡ 
 
 pub loads_channel : (i : Instr) (n : ℕ) → shape_of i ≡ Loads n → IsChannel n
 unfolding shape_of
-loads_channel Stop n e = cc
-loads_channel Pass n e = cc
-loads_channel (ReturnJump K) n e = cc
-loads_channel (Jump j K) n e = cc
-loads_channel (BranchX t j K) n e = cc
-loads_channel (BranchB t j k K) n e = cc
-loads_channel (Copy j k) n e = cc
-loads_channel (Invert j k) n e = cc
-loads_channel (Logical o i j k) n e = cc
-loads_channel (ShiftBy d i j) n e = cc
-loads_channel (ShiftNominal d i j k) n e = cc
-loads_channel (LongSum o i j k) n e = cc
-loads_channel (Mask i j) n e = cc
-loads_channel (CountOnes i k) n e = cc
-loads_channel (Increment TargetB i a) n e = cc
-loads_channel (Increment TargetX i a) n e = cc
-loads_channel (Increment TargetA i a) n e = by_zero (eqb i 0) refl e
-  where
-    by_five : (b : Bool) → nat_le i 5 ≡ b → eqb i 0 ≡ false → cond b (Loads i) (Stores i) ≡ Loads n → IsChannel n
-    by_five false j z k = cc
-    by_five true j z k =
-        let at : i ≡ n = cc in
-        let d : i ≢ 0 = eqb-false i 0 z in
-        let l : i ≤ 5 = grind (arith, nat_tests) in
-        (omega (arith, at, d), omega (arith, at, l))
-
-    by_zero : (b : Bool) → eqb i 0 ≡ b → cond b (Sets (A 0 ∷ [])) (cond (nat_le i 5) (Loads i) (Stores i)) ≡ Loads n
-        → IsChannel n
-    by_zero true j k = cc
-    by_zero false j k = by_five (nat_le i 5) refl j k
+loads_channel i n e = grind arith

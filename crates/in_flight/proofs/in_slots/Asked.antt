@@ -1,5 +1,5 @@
 -- A question that only the item in one slot answers: the item that the search finds, and its replacement.
-use Rattle.std.proofs.Common.{◌≡◌, ◌≢◌, ℕ, List, ◌++◌, Option, Some, None, sym, ap, ◌∙◌, get_or, set, arith}
+use Rattle.std.proofs.Common.{◌≡◌, ◌≢◌, ℕ, List, ◌++◌, Option, Some, None, get_or, arith}
 use Rattle.instructions.specs.Finding.{seek, put_back, replaced}
 use Rattle.instructions.specs.Order.{sort_by, somes, IsInSlots}
 use Rattle.instructions.proofs.Lists.{each_map}
@@ -20,21 +20,12 @@ pub asked_found : {K W : Type 0} (slot_of key : K → ℕ) (ask : K → Option W
     → IsOfSlot slot_of ask i → AreSlots slot_of key os → get_or os i None ≡ Some m → (x : W) × (ask m ≡ Some x)
     × (seek ask (sort_by key (somes os))
     ≡ Some (record { earlier = before_slot key os i m; item = m; answer = x; later = after_slot key os i m }))
-asked_found slot_of key ask os i m q s h =
-    let a = q.here m (in_slots_here slot_of os 0 i m h s.stands ∙ omega arith) in (
-      a.0,
-      a.1,
-      found_there key ask os i m a.0 h s.own a.1
-          (each_map (λ y. slot_of y ≢ i) (λ y. ask y ≡ None) (λ y k. q.others y k) (somes (set os i None))
-          (in_slots_others slot_of os 0 i i (omega arith) s.stands)),
-    )
+asked_found slot_of key ask os i m q s h = grind (arith, in_slots_here, found_there, each_map, in_slots_others)
 
 pub asked_nobody : {K W : Type 0} (slot_of key : K → ℕ) (ask : K → Option W) (os : List (Option K)) (i : ℕ)
     → IsOfSlot slot_of ask i → AreSlots slot_of key os → get_or os i None ≡ None
     → seek ask (sort_by key (somes os)) ≡ None
-asked_nobody slot_of key ask os i q s h =
-    found_nobody key ask os (each_map (λ y. slot_of y ≢ i) (λ y. ask y ≡ None) (λ y k. q.others y k) (somes os)
-    (in_slots_nobody slot_of os i h s.stands))
+asked_nobody slot_of key ask os i q s h = grind (arith, found_nobody, each_map, in_slots_nobody)
 
 -- replacing the item at its position is replacing it in the list
 pub asked_view : {K W : Type 0} (slot_of key : K → ℕ) (ask : K → Option W) (os : List (Option K)) (i : ℕ) (m : K)
@@ -42,5 +33,4 @@ pub asked_view : {K W : Type 0} (slot_of key : K → ℕ) (ask : K → Option W)
     → ms ≡ before_slot key os i m ++ (g m ++ after_slot key os i m)
     → ms ≡ replaced (seek ask (sort_by key (somes os))) (sort_by key (somes os)) g
 unfolding replaced put_back
-asked_view slot_of key ask os i m g ms q s h e =
-    e ∙ ap (λ o. replaced o (sort_by key (somes os)) g) (sym (asked_found slot_of key ask os i m q s h).2)
+asked_view slot_of key ask os i m g ms q s h e = grind (arith, asked_found slot_of key ask os i m q s h)

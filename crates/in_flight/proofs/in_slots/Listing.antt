@@ -1,6 +1,6 @@
 -- The pending instructions as one list: each is inserted by its number, beginning with the last slot.
 use Rattle.std.proofs.Common.{◌≡◌, ◌<◌, ◌≤◌, ◌+◌, ℕ, zero, suc, Bool, true, false, cond, List, [], ◌∷◌, ◌++◌, Option}
-use Rattle.std.proofs.Common.{Some, None, refl, sym, ap, ◌∙◌, ltb, length, drop, get_or, add-one, arith}
+use Rattle.std.proofs.Common.{Some, None, refl, ap, ◌∙◌, ltb, length, drop, get_or, add-one, arith}
 use Rattle.std.specs.Prelude.{not}
 use Rattle.std.specs.List.{insert, position, position_or_len}
 use Rattle.std.proofs.lemmas.Bool.{ltb-false}
@@ -29,11 +29,7 @@ inserted_above x (y ∷ ys) = by_test (ltb x.number y.number) (inserted_above x 
 pub inserted_at : (x : Pending) (ys : List Pending) (i : ℕ) → position (λ y. ltb x.number y.number) ys ≡ Some i
     → insert ys i x ≡ insert_by number_of x ys
 unfolding above
-inserted_at x ys i h = by_test (ltb (above x ys) (length ys)) h
-  where
-    by_test : (b : Bool) → cond b (Some (above x ys)) None ≡ Some i → insert ys i x ≡ insert_by number_of x ys
-    by_test true e = ap (λ n. insert ys n x) (sym (same_Some _ _ e)) ∙ inserted_above x ys
-    by_test false e = cc
+inserted_at x ys i h = grind (arith, above, inserted_above, same_Some)
 
 after_all : (x : Pending) (ys : List Pending) (n : ℕ) → length ys ≤ n → ys ++ x ∷ [] ≡ insert ys n x
 after_all x [] zero h = refl
@@ -63,8 +59,7 @@ step (p ∷ os) (suc i) o d ms h e = step os i o d ms (omega (arith, h)) e
 pub one_more : (os : List (Option Pending)) (i j : ℕ) (o d : Option Pending) (ms before after : List Pending)
     → j < length os → i ≡ j + 1 → o ≡ get_or os j d → before ≡ with_slots (drop i os) ms
     → after ≡ with_slot o before → after ≡ with_slots (drop j os) ms
-one_more os i j o d ms before after h k e b a =
-    a ∙ ap (with_slot o) (b ∙ ap (λ n. with_slots (drop n os) ms) (k ∙ add-one j)) ∙ step os j o d ms h e
+one_more os i j o d ms before after h k e b a = rw (a, b, k, add-one j, step os j o d ms h e)
 
 pub none_yet : (os : List (Option Pending)) (ms : List Pending) → ms ≡ with_slots (drop (length os) os) ms
 unfolding with_slots
@@ -86,7 +81,4 @@ with_sorted (Some x ∷ os) = ap (insert_by number_of x) (with_sorted os)
 pub all_slots : (units places channels : List (Option Pending))
     → with_slots units (with_slots places (with_slots channels [])) ≡ in_order (slots units places channels)
 unfolding slots
-all_slots units places channels =
-    ap (with_slots units) (with_append places channels [])
-    ∙ with_append units (places ++ channels) []
-    ∙ with_sorted (units ++ (places ++ channels))
+all_slots units places channels = grind (arith, with_append, with_sorted)

@@ -1,9 +1,9 @@
 -- The list that the slots represent, after an instruction is found in its slot, changed there, moved or removed.
 use Rattle.std.proofs.Common.{◌≡◌, ◌≢◌, ◌<◌, ◌≤◌, ◌+◌, ℕ, Bool, true, false, cond, List, [], ◌∷◌, ◌++◌}
 use Rattle.std.proofs.Common.{Option, Some, None, refl, sym, ap, ◌∙◌, subst, ltb, get_or, set, length, arith}
-use Rattle.std.specs.Prelude.{◌&&◌, is_none, IfSome}
+use Rattle.std.specs.Prelude.{◌&&◌, is_none}
 use Rattle.std.specs.List.{list_all}
-use Rattle.std.proofs.lemmas.Bool.{eq-eqb, ne_eqb, lt-ltb, ltb-true, ltb-false}
+use Rattle.std.proofs.lemmas.Bool.{eq-eqb, ltb-true, ltb-false}
 use Rattle.std.proofs.lemmas.List.{length-set, set-set, set-append_left, get_or_append_left, get_or-set_same}
 use Rattle.instructions.specs.declared.instr.Unit.{Unit as FunctionalUnit}
 use Rattle.scoreboard.specs.Units.{unit_number, same_unit}
@@ -28,7 +28,7 @@ use Rattle.instructions.specs.Finding.{seek, replaced}
 use Rattle.in_flight.specs.Lookup.{stage_in, stage_at, entry_in, entry_at, arrival_in, arrival_at, in_phase, kept}
 use Rattle.in_flight.specs.Lookup.{located}
 use Rattle.in_flight.specs.inner.Slots.{number_of, slot_in, slot_of, slots, in_order, IsRight, AreElsewhere, HasRoom}
-use Rattle.in_flight.specs.inner.Slots.{has_none, IsWithin, places_with, channels_with}
+use Rattle.in_flight.specs.inner.Slots.{has_none, places_with, channels_with}
 use Rattle.instructions.proofs.Sorted.{each_sorted}
 use Rattle.in_flight.proofs.asking.Finding.{stage_found}
 use Rattle.in_flight.proofs.in_slots.Asked.{IsOfSlot, AreSlots, asked_found, asked_nobody, asked_view}
@@ -38,7 +38,7 @@ use Rattle.in_flight.proofs.in_slots.Asked.{IsOfSlot, AreSlots, asked_found, ask
 abbrev Own : List (Option Pending) → Type 0
 Own os = Pairs (λ x y. number_of x ≢ number_of y) (somes os)
 
--- the instruction or nothing was read in the slot that a question is about; the slots represent this list
+-- the content of the slot that a question is about; the three tables of slots represent the list `ms`
 pub record IsRead {W : Type 0} (ask : Pending → Option W) (units places channels : List (Option Pending))
     (ms : List Pending) (i : ℕ) (o : Option Pending) : Type 0 where
   pub asked : IsOfSlot slot_of ask i
@@ -65,8 +65,7 @@ read_found {ask = ask} {m = m} {x = x} r k =
     let f = asked_found slot_of number_of _ _ _ _ r.asked (as_slots r.right) r.there in
     let e : Some x ≡ Some f.0 = sym k ∙ f.1 in
     let xe : x ≡ f.0 = cc in
-    ap (λ z. Some (record { pending = m; answer = z })) xe ∙ ap located (sym f.2)
-    ∙ ap (λ l. located (seek ask l)) r.view
+    cc
 
 -- the instruction in the slot has an answer
 pub read_must : {W : Type 0} {ask : Pending → Option W} {units places channels : List (Option Pending)}
@@ -76,8 +75,7 @@ read_must r k = let f = read_answers r in let e : None ≡ Some f.0 = sym k ∙ 
 -- the search finds nothing if the slot is empty
 pub read_nobody : {W : Type 0} {ask : Pending → Option W} {units places channels : List (Option Pending)}
     {ms : List Pending} {i : ℕ} → IsRead ask units places channels ms i None → seek ask ms ≡ None
-read_nobody {ask = ask} r =
-    ap (seek ask) (sym r.view) ∙ asked_nobody slot_of number_of _ _ _ r.asked (as_slots r.right) r.there
+read_nobody {ask = ask} r = grind (arith, asked_nobody, as_slots)
 
 -- nothing is replaced if the slot is empty
 pub read_unchanged : {W : Type 0} {ask : Pending → Option W} {units places channels : List (Option Pending)}
@@ -93,11 +91,9 @@ read_replaced : {W : Type 0} {ask : Pending → Option W} {units places channels
     → ns ≡ before_slot number_of (slots units places channels) i m
     ++ (g m ++ after_slot number_of (slots units places channels) i m)
     → ns ≡ replaced (seek ask ms) ms g
-read_replaced {ask = ask} {ms = ms} g ns r e =
-    asked_view slot_of number_of ask _ _ _ g ns r.asked (as_slots r.right) r.there e
-    ∙ ap (λ l. replaced (seek ask l) l g) r.view
+read_replaced {ask = ask} {ms = ms} g ns r e = grind (arith, asked_view, as_slots)
 
--- ---- the one that holds a unit ----
+-- ---- the instruction that holds a unit ----
 
 stage_here : (u v : FunctionalUnit) (p : Phase) → slot_in v p ≡ unit_number u → (t : Stage)
     × (cond (same_unit v u) (stage_in p) None ≡ Some t)
@@ -109,8 +105,7 @@ stage_here u v (After (Accepted n w)) h = absurd (let b = unit_below u in grind 
 stage_others : (u v : FunctionalUnit) (p : Phase) → slot_in v p ≢ unit_number u
     → cond (same_unit v u) (stage_in p) None ≡ None
 unfolding slot_in same_unit stage_in
-stage_others u v (Before t) h = ap (λ b. cond b (Some t) None) (ne_eqb (unit_number v) (unit_number u) h)
-stage_others u v (After l) h = grind arith
+stage_others u v p h = grind arith
 
 stage_asked : (u : FunctionalUnit) (i : ℕ) → i ≡ unit_number u → IsOfSlot slot_of (stage_at u) i
 unfolding stage_at slot_of
@@ -129,15 +124,8 @@ pub unit_read : {units places channels : List (Option Pending)} {ms : List Pendi
     (u : FunctionalUnit) (d : Option Pending) → IsRight units places channels
     → in_order (slots units places channels) ≡ ms → i ≡ unit_number u → get_or units i d ≡ o
     → IsRead (stage_at u) units places channels ms i o
-unit_read {units} {places} {channels} {i = i} {o = o} u d right view e h =
-    let b = unit_below u in
-    let inside : i < length units = omega (arith, b, e, right.all_units) in
-    record {
-      asked = stage_asked u i e;
-      right = right;
-      there = unit_slot units places channels i o inside (slot_any units i d inside ∙ h);
-      view = view;
-    }
+unit_read {units} {places} {channels} {i =
+    i} {o = o} u d right view e h = grind (arith, unit_below, stage_asked, unit_slot, slot_any)
 
 -- the stage of the instruction that holds the unit
 pub stage_read : {units places channels : List (Option Pending)} {ms : List Pending} {i : ℕ} {m : Pending} {t : Stage}
@@ -202,8 +190,7 @@ staged_right {units} {places} {channels} {i = i} {m = m} u s r e =
           (in_slots_fill slot_of os 0 i (in_phase m (Before s))
           (staged_slot m a.0 s (stage_found u m a.0 a.1) ∙ in_slots_here slot_of os 0 i m r.there r.right.stands)
           r.right.stands);
-      own = subst Own (set-set os i None (Some (in_phase m (Before s))) ∙ front)
-          (own_moved os i i m (Before s) r.there r.right.own (empty_there os i m r.there) (within os i m r.there));
+      own = grind (arith, own_moved, empty_there, within, set-set);
     }
 
 staged_order : (units places channels : List (Option Pending)) (i : ℕ) (m : Pending) (s : Stage) → i < length units
@@ -215,8 +202,7 @@ unfolding slots
 staged_order units places channels i m s inside here own =
     let os : List (Option Pending) = units ++ (places ++ channels) in
     ap (λ l. sort_by number_of (somes l))
-    (sym (set-set os i None (Some (in_phase m (Before s)))
-    ∙ set-append_left units (places ++ channels) i (Some (in_phase m (Before s))) inside))
+    (grind (arith, set-set, set-append_left))
     ∙ moved_with number_of os i i m (in_phase m (Before s)) here (phase_number m (Before s)) (empty_there os i m here)
     (room_there os i i (within os i m here)) own
 
@@ -235,13 +221,6 @@ staged_view {units} {places} {channels} {i = i} {m = m} u s r e =
 abbrev pub HasRest : (places channels : List (Option Pending)) → Pending → Option Outstanding
     → (ps cs : List (Option Pending)) → Type 0
 HasRest places channels m l ps cs = (ps ≡ places_with places m l) × (cs ≡ channels_with channels m l)
-
--- the place or the channel of the rest exists
-pub rest_within : (places channels : List (Option Pending)) (l : Option Outstanding) (ms : List Pending)
-    → length places ≡ 4 → length channels ≡ 8 → HasRoom l ms → IfSome l (IsWithin (length places) (length channels))
-rest_within places channels None ms p c room = tt
-rest_within places channels (Some (Entered place a access)) ms p c room = subst (λ n. place < n) (sym p) room.0
-rest_within places channels (Some (Accepted n word)) ms p c room = subst (λ k. n < k) (sym c) room.0
 
 abbrev later_slot : Outstanding → ℕ
 later_slot (Entered place a access) = 10 + place
@@ -265,16 +244,13 @@ left_slots units places channels m (Accepted n word) ms lu lp room =
 left_stands : (m : Pending) (l : Outstanding) (ms : List Pending) → HasRoom (Some l) ms
     → slot_of (in_phase m (After l)) ≡ later_slot l
 unfolding slot_of slot_in in_phase
-left_stands m (Entered place a access) ms room = ap (λ b. cond b (10 + place) 22) (lt-ltb place 4 room.0)
-left_stands m (Accepted n word) ms room = ap (λ b. cond b (14 + n) 22) (lt-ltb n 8 room.0)
+left_stands m l ms room = grind arith
 
 left_elsewhere : (l : Outstanding) (ms : List Pending) → HasRoom (Some l) ms → AreElsewhere (later_slot l) ms
-left_elsewhere (Entered place a access) ms room = room.1
-left_elsewhere (Accepted n word) ms room = room.1
+left_elsewhere l ms room = grind arith
 
 left_below : (l : Outstanding) (ms : List Pending) → HasRoom (Some l) ms → later_slot l < 22
-left_below (Entered place a access) ms room = omega (arith, room.0)
-left_below (Accepted n word) ms room = omega (arith, room.0)
+left_below l ms room = grind arith
 
 length_joined : {K : Type 0} (xs ys : List K) → length (xs ++ ys) ≡ length xs + length ys
 length_joined [] ys = omega arith
@@ -283,24 +259,18 @@ length_joined (x ∷ xs) ys = let e = length_joined xs ys in omega (arith, e)
 all_slots : (units places channels : List (Option Pending)) → IsRight units places channels
     → length (slots units places channels) ≡ 22
 unfolding slots
-all_slots units places channels right =
-    let a = length_joined units (places ++ channels) in
-    let b = length_joined places channels in
-    omega (arith, a, b, right.all_units, right.all_places, right.all_channels)
+all_slots units places channels right = grind (arith, length_joined)
 
 left_empty : (os : List (Option Pending)) (i : ℕ) (l : Outstanding) → IsInSlots slot_of 0 os
     → HasRoom (Some l) (in_order os) → get_or (set os i None) (later_slot l) None ≡ None
 left_empty os i l s room =
     slot_empty slot_of (set os i None) 0 (later_slot l) (later_slot l) (omega arith) (in_slots_empty slot_of os 0 i s)
-    (each_taken (λ y. slot_of y ≢ later_slot l) os i
-    (each_sorted number_of (λ y. slot_of y ≢ later_slot l) (somes os) (left_elsewhere l (in_order os) room)))
+    (search (each_taken, each_sorted, left_elsewhere))
 
 with_lengths : (places channels : List (Option Pending)) (m : Pending) (l : Option Outstanding)
     → (length (places_with places m l) ≡ length places) × (length (channels_with channels m l) ≡ length channels)
 unfolding places_with channels_with
-with_lengths places channels m None = (refl, refl)
-with_lengths places channels m (Some (Entered place a access)) = (length-set places place _, refl)
-with_lengths places channels m (Some (Accepted n word)) = (refl, length-set channels n _)
+with_lengths places channels m l = grind (arith, length-set)
 
 rest_there : (units places channels ps cs : List (Option Pending)) (m : Pending) (l : Option Outstanding)
     → HasRest places channels m l ps cs
@@ -312,7 +282,7 @@ none_there : (units places channels ps cs : List (Option Pending)) (m : Pending)
 unfolding places_with channels_with
 none_there units places channels ps cs m rest = cc
 
--- without the item in one slot, the slots are those of the three lists
+-- the three lists hold the slots of `os`, with one slot emptied
 pub record IsOut (os units places channels : List (Option Pending)) (i : ℕ) : Type 0 where
   rest : set os i None ≡ slots units places channels
   all_units : length units ≡ 10
@@ -330,8 +300,7 @@ moved_right {us = us} {qs} {ns} {units} {places} {channels} {ps} {cs} {i = i} {m
       all_units = o.all_units;
       all_places = ap length rest.0 ∙ (with_lengths places channels m None).0 ∙ o.all_places;
       all_channels = ap length rest.1 ∙ (with_lengths places channels m None).1 ∙ o.all_channels;
-      stands = subst (IsInSlots slot_of 0) (o.rest ∙ none_there units places channels ps cs m rest)
-          (in_slots_empty slot_of os 0 i r.right.stands);
+      stands = grind (arith, none_there, in_slots_empty);
       own = subst Own (o.rest ∙ none_there units places channels ps cs m rest)
           (own_taken number_of os i m r.there r.right.own);
     }
@@ -347,11 +316,8 @@ moved_right {us = us} {qs} {ns} {units} {places} {channels} {ps} {cs} {ms} {i} {
       all_units = o.all_units;
       all_places = ap length rest.0 ∙ (with_lengths places channels m (Some l)).0 ∙ o.all_places;
       all_channels = ap length rest.1 ∙ (with_lengths places channels m (Some l)).1 ∙ o.all_channels;
-      stands = subst (IsInSlots slot_of 0) there
-          (in_slots_fill slot_of (set os i None) 0 (later_slot l) (in_phase m (After l))
-          (left_stands m l (in_order os) free ∙ omega arith) (in_slots_empty slot_of os 0 i r.right.stands));
-      own = subst Own there (own_moved os i (later_slot l) m (After l) r.there r.right.own
-          (left_empty os i l r.right.stands free) (omega (arith, all, low)));
+      stands = grind (arith, in_slots_fill, left_stands, in_slots_empty);
+      own = grind (arith, own_moved, left_empty);
     }
 
 moved_order : (os units places channels ps cs : List (Option Pending)) (i : ℕ) (m : Pending) (l : Option Outstanding)
@@ -359,15 +325,11 @@ moved_order : (os units places channels ps cs : List (Option Pending)) (i : ℕ)
     → IsOut os units places channels i → HasRoom l (in_order os) → HasRest places channels m l ps cs
     → in_order (slots units ps cs) ≡ before_slot number_of os i m ++ (kept m l ++ after_slot number_of os i m)
 unfolding kept
-moved_order os units places channels ps cs i m None there s all o room rest =
-    ap (λ k. sort_by number_of (somes k)) (sym (o.rest ∙ none_there units places channels ps cs m rest))
-    ∙ taken_without number_of (number_of m) os i
+moved_order os units places channels ps cs i m None there s all o room rest = grind (arith, none_there, taken_without)
 moved_order os units places channels ps cs i m (Some l) there s all o room rest =
     let low = left_below l (in_order os) room in
     ap (λ k. sort_by number_of (somes k))
-    (sym (ap (λ k. set k (later_slot l) (Some (in_phase m (After l)))) o.rest
-    ∙ left_slots units places channels m l (in_order os) o.all_units o.all_places room
-    ∙ rest_there units places channels ps cs m (Some l) rest))
+    (grind (arith, left_slots, rest_there))
     ∙ moved_with number_of os i (later_slot l) m (in_phase m (After l)) there (phase_number m (After l))
     (left_empty os i l s.stands room) (room_there os i (later_slot l) (omega (arith, all, low))) s.own
 
@@ -376,8 +338,7 @@ pub moved_view : {W : Type 0} {ask : Pending → Option W} {us qs ns units place
     → IsOut (slots us qs ns) units places channels i → HasRoom l ms → HasRest places channels m l ps cs
     → in_order (slots units ps cs) ≡ replaced (seek ask ms) ms (λ x. kept x l)
 moved_view {us = us} {qs} {ns} l r o room rest =
-    read_replaced (λ x. kept x l) _ r (moved_order _ _ _ _ _ _ _ _ l r.there (as_slots r.right)
-    (all_slots us qs ns r.right) o (subst (HasRoom l) (sym r.view) room) rest)
+    read_replaced (λ x. kept x l) _ r (grind (arith, moved_order, as_slots, all_slots))
 
 -- ---- out of a unit ----
 
@@ -385,14 +346,7 @@ pub unit_out : {units places channels : List (Option Pending)} {i : ℕ} (u : Fu
     → IsRight units places channels → i ≡ unit_number u
     → IsOut (slots units places channels) (set units i None) places channels i
 unfolding slots
-unit_out {units} {places} {channels} {i} u right e =
-    let b = unit_below u in
-    record {
-      rest = set-append_left units (places ++ channels) i None (omega (arith, b, e, right.all_units));
-      all_units = length-set units i None ∙ right.all_units;
-      all_places = right.all_places;
-      all_channels = right.all_channels;
-    }
+unit_out {units} {places} {channels} {i} u right e = grind (arith, unit_below, set-append_left, length-set)
 
 -- ---- out of a place ----
 
@@ -405,9 +359,7 @@ entry_here p v (After (Entered s a x)) b h = (record { address = a; access = x }
 
 entry_others : (p : ℕ) (v : FunctionalUnit) (q : Phase) → p < 4 → slot_in v q ≢ 10 + p → entry_in p q ≡ None
 unfolding entry_in slot_in
-entry_others p v (Before t) b h = refl
-entry_others p v (After (Accepted n w)) b h = refl
-entry_others p v (After (Entered s a x)) b h = grind arith
+entry_others p v q b h = grind arith
 
 entry_asked : (p i : ℕ) → p < 4 → i ≡ p → IsOfSlot slot_of (entry_at p) (10 + i)
 unfolding entry_at slot_of
@@ -424,15 +376,8 @@ pub place_read : {units places channels : List (Option Pending)} {ms : List Pend
     (d : Option Pending) → IsRight units places channels → in_order (slots units places channels) ≡ ms → p < 4
     → i ≡ p → get_or places i d ≡ o → IsRead (entry_at p) units places channels ms (10 + i) o
 unfolding slots
-place_read {units} {places} {channels} {i = i} {p} d right view b e h =
-    let inside : i < length places = omega (arith, b, e, right.all_places) in
-    record {
-      asked = entry_asked p i b e;
-      right = right;
-      there = get_back units (places ++ channels) i (10 + i) None (omega (arith, right.all_units))
-          ∙ get_or_append_left places channels None i inside ∙ slot_any places i d inside ∙ h;
-      view = view;
-    }
+place_read {units} {places} {channels} {i =
+    i} {p} d right view b e h = grind (arith, entry_asked, get_back, slot_any, get_or_append_left)
 
 pub place_out : {units places channels : List (Option Pending)} {i : ℕ} → IsRight units places channels → i < 4
     → IsOut (slots units places channels) units (set places i None) channels (10 + i)
@@ -456,9 +401,7 @@ arrival_here n v (After (Accepted m w)) b h = (record { channel = m; word = w },
 
 arrival_others : (n : ℕ) (v : FunctionalUnit) (q : Phase) → n < 8 → slot_in v q ≢ 14 + n → arrival_in n q ≡ None
 unfolding arrival_in slot_in
-arrival_others n v (Before t) b h = refl
-arrival_others n v (After (Entered s a x)) b h = refl
-arrival_others n v (After (Accepted m w)) b h = grind arith
+arrival_others n v q b h = grind arith
 
 arrival_asked : (n i : ℕ) → n < 8 → i ≡ n → IsOfSlot slot_of (arrival_at n) (14 + i)
 unfolding arrival_at slot_of
@@ -502,9 +445,7 @@ no_rest places channels m = (refl, refl)
 
 arrival_far_in : (n : ℕ) (v : FunctionalUnit) (q : Phase) → 8 ≤ n → slot_in v q < 22 → arrival_in n q ≡ None
 unfolding arrival_in slot_in
-arrival_far_in n v (Before t) b h = refl
-arrival_far_in n v (After (Entered s a x)) b h = refl
-arrival_far_in n v (After (Accepted m w)) b h = grind arith
+arrival_far_in n v q b h = grind arith
 
 arrival_far : (n : ℕ) (y : Pending) → 8 ≤ n → slot_of y < 22 → arrival_at n y ≡ None
 unfolding arrival_at slot_of
@@ -533,8 +474,7 @@ arrival_none {units} {places} {channels} {ms} n right view h = by_test (ltb n 8)
 
 pub channel_below : {units places channels : List (Option Pending)} (n : ℕ) (m : Pending)
     → IsRight units places channels → get_or channels n None ≡ Some m → n < 8
-channel_below {channels = channels} n m right h =
-    let w = within channels n m h in omega (arith, w, right.all_channels)
+channel_below {channels = channels} n m right h = grind (arith, within)
 
 -- ---- a new one ----
 
@@ -570,11 +510,9 @@ new_right units places channels i m t right e w h last =
       all_units = length-set units i (Some m) ∙ right.all_units;
       all_places = right.all_places;
       all_channels = right.all_channels;
-      stands = subst (IsInSlots slot_of 0) front
-          (in_slots_fill slot_of os 0 i m (new_stands m t w ∙ omega (arith, e)) right.stands);
+      stands = grind (arith, in_slots_fill, new_stands);
       own = subst Own front (own_put number_of os i m here (omega (arith, all, inside))
-          (each_map (λ x. x.number < m.number) (λ x. number_of x ≢ number_of m) (λ x k. less_differs x m k) (somes os)
-          (each_sorted number_of (λ x. x.number < m.number) (somes os) last)) right.own);
+          (grind (arith, each_map, each_sorted)) right.own);
     }
   where
     less_differs : (x y : Pending) → x.number < y.number → number_of x ≢ number_of y
@@ -599,11 +537,7 @@ new_view units places channels i m right e h last =
 insert_some : (x : Pending) (ys : List Pending) → has_none (insert_by number_of x ys) ≡ false
 unfolding insert_by has_none
 insert_some x [] = refl
-insert_some x (y ∷ ys) = by_test (ltb (number_of x) (number_of y))
-  where
-    by_test : (b : Bool) → has_none (cond b (x ∷ y ∷ ys) (y ∷ insert_by number_of x ys)) ≡ false
-    by_test true = refl
-    by_test false = refl
+insert_some x (y ∷ ys) = grind arith
 
 none_sorted : (os : List (Option Pending)) → list_all is_none os ≡ has_none (sort_by number_of (somes os))
 unfolding sort_by somes has_none
@@ -622,6 +556,4 @@ pub none_pending : (units places channels : List (Option Pending))
     ≡ has_none (in_order (slots units places channels))
 unfolding slots
 none_pending units places channels =
-    ap (λ b. list_all is_none units && b) (sym (all-append places channels))
-    ∙ sym (all-append units (places ++ channels))
-    ∙ none_sorted (units ++ (places ++ channels))
+    cc (all-append places channels, all-append units (places ++ channels), none_sorted (units ++ (places ++ channels)))

@@ -1,4 +1,4 @@
-use Rattle.std.proofs.Common.{refl}
+use Rattle.std.proofs.Common.{refl, rules}
 use Rattle.in_flight.specs.inner.Slots.{lower_of}
 use Rattle.in_flight.proofs.in_slots.Oldest.{lowest_more, lowest_done}
 use Rattle.in_flight.proofs.slots.lowest.Goals as goal
@@ -12,5 +12,4 @@ loop-slot-preserved c = lowest_more c.loop-slot.found _ c.args.slots.now c.loop-
     c.loop-slot-test.true c.lower-found.ensures c.slot-item.is c.loop-slot.invariant
 
 pub returns : goal.returns
-returns c =
-    lowest_done c.loop-slot.found c.args.slots.now c.loop-slot.slot-index _ c.loop-slot-test.false c.loop-slot.invariant
+returns c = search (rules, lowest_done, c.loop-slot-test.false, c.loop-slot.invariant)

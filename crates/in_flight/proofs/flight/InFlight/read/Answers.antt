@@ -1,10 +1,10 @@
-use Rattle.std.proofs.Common.{◌≡◌, [], ◌∷◌, sym, subst, Some}
+use Rattle.std.proofs.Common.{arith}
+use Rattle.std.proofs.Common.{[], ◌∷◌}
 use Rattle.scoreboard.specs.Answers.{held_in, read as board_read}
 use Rattle.in_flight.specs.declared.pending.Phase.TheVariants.{Before}
 use Rattle.in_flight.specs.declared.pending.Stage.TheVariants.{Read, Unread}
-use Rattle.in_flight.specs.Flight.{Flight}
 use Rattle.instructions.specs.Finding.{replaced, seek}
-use Rattle.in_flight.specs.Lookup.{stage_at, in_phase, located}
+use Rattle.in_flight.specs.Lookup.{stage_at, in_phase}
 use Rattle.in_flight.proofs.answering.Beside.{read_tied, changed_flight}
 use Rattle.in_flight.proofs.flight.InFlight.read.Goals as goal
 
@@ -12,8 +12,7 @@ pub invariant_of-self : goal.invariant_of-self
 invariant_of-self c =
     read_tied c.args.unit c.self.inside.slots c.set_stage.new.self c.self.inside.hopper c.self.inside.board
     c.mark_read.new.self (record { pending = c.in-Ok.pending; answer = Unread }) c.reading-read.result.1
-    (subst (λ (f : Flight). located (seek (stage_at c.args.unit) f.pending)
-    ≡ Some (record { pending = c.in-Ok.pending; answer = Unread })) (sym c.self.view_is) c.in-Ok.ensures.pending)
+    (grind arith)
     c.self.invariant c.set_stage.ensures c.mark_read.ensures
 
 pub returns-clause-after : goal.returns-clause-after

@@ -1,10 +1,7 @@
-use Rattle.std.proofs.Common.{suc, sym, ap, ◌∙◌, subst}
-use Rattle.std.specs.Prelude.{unwrap_or}
-use Rattle.instructions.specs.declared.instr.Unit.TheVariants.{Branch}
+use Rattle.std.proofs.Common.{rules}
+use Rattle.std.proofs.Common.{sym, ap, ◌∙◌, subst, arith}
 use Rattle.instructions.specs.Operands.{uses}
-use Rattle.sequential.specs.declared.fetching.Fetched.TheVariants.{Taking}
-use Rattle.in_flight.specs.Tests.{refusal_of, reservation_tests}
-use Rattle.in_flight.specs.Flight.{Flight, flight_of, unit_taken, reserved_in}
+use Rattle.in_flight.specs.Flight.{Flight, flight_of, reserved_in}
 use Rattle.in_flight.specs.inner.Board.{IsTied}
 use Rattle.in_flight.proofs.answering.Beside.{error_there, reserve_answered, unreserved, reserved_now}
 use Rattle.in_flight.proofs.answering.Beside.{reserved_as, unit_free, all_below, reserve_tied, reserved_flight}
@@ -14,14 +11,10 @@ pub invariant_of-self-in_default : goal.invariant_of-self-in_default
 invariant_of-self-in_default c =
     let p = error_there c.try_reserve-reserved.result c.in_default.not-Ok in
     subst (IsTied c.self.inside.slots c.self.inside.hopper)
-    (sym (unreserved c.self.inside.board c.try_reserve-reserved.new.self c.args.instr.now
-    c.try_reserve-reserved.result p.0 c.try_reserve-reserved.ensures.after p.1)) c.self.invariant
+    (sym (search (rules, unreserved))) c.self.invariant
 
 pub returns-in_default-clause-answer : goal.returns-in_default-clause-answer
-returns-in_default-clause-answer c place =
-    sym (ap (λ (f : Flight). refusal_of (reservation_tests f.pending (Taking c.args.instr.now place))) c.self.view_is)
-    ∙ reserve_answered c.self.inside.slots c.args.instr.now place c.self.inside.board c.try_reserve-reserved.result
-    c.self.invariant.boarded c.try_reserve-reserved.ensures.answer
+returns-in_default-clause-answer c place = grind (arith, reserve_answered)
 
 pub returns-in_default-clause-after : goal.returns-in_default-clause-after
 returns-in_default-clause-after c =
@@ -64,21 +57,10 @@ invariant_of-self c =
     c.in-Ok.is) c.push.ensures
 
 pub returns-in-Ok-clause-answer : goal.returns-in-Ok-clause-answer
-returns-in-Ok-clause-answer c place =
-    sym (ap (λ (f : Flight). refusal_of (reservation_tests f.pending (Taking c.args.instr.now place))) c.self.view_is)
-    ∙ reserve_answered c.self.inside.slots c.args.instr.now place c.self.inside.board c.try_reserve-reserved.result
-    c.self.invariant.boarded c.try_reserve-reserved.ensures.answer
+returns-in-Ok-clause-answer c place = grind (arith, reserve_answered)
 
 pub returns-in-Ok-clause-reservation : goal.returns-in-Ok-clause-reservation
-returns-in-Ok-clause-reservation c =
-    let p = reserved_as c.self.inside.slots c.args.instr.now c.self.inside.board c.try_reserve-reserved.result
-    (c.in-Ok.unit, c.in-Ok.number)
-    c.self.invariant.boarded c.try_reserve-reserved.ensures.answer c.in-Ok.is in
-    rw c.in-Ok.is (
-      sym (ap (λ o. unwrap_or o Branch) p.0) ∙ ap (λ (f : Flight). unit_taken f c.args.instr.now) c.self.view_is,
-      p.1
-          ∙ ap (λ (f : Flight). suc f.last) c.self.view_is,
-    )
+returns-in-Ok-clause-reservation c = grind (arith, reserved_as)
 
 pub returns-in-Ok-clause-after : goal.returns-in-Ok-clause-after
 returns-in-Ok-clause-after c =

@@ -1,11 +1,10 @@
-use Rattle.std.proofs.Common.{◌≡◌, [], sym, subst}
-use Rattle.std.specs.Prelude.{Some}
+use Rattle.std.proofs.Common.{[], sym, subst, arith}
 use Rattle.instructions.specs.Each.{Pairs}
 use Rattle.scoreboard.specs.Answers.{returning_by, gone}
 use Rattle.in_flight.specs.Flight.{Flight}
 use Rattle.instructions.specs.Finding.{replaced, seek}
 use Rattle.in_flight.specs.Apart.{IsApart}
-use Rattle.in_flight.specs.Lookup.{arrival_at, located}
+use Rattle.in_flight.specs.Lookup.{arrival_at}
 use Rattle.in_flight.proofs.answering.Beside.{return_tied, what_there, changed_flight}
 use Rattle.in_flight.proofs.flight.InFlight.return_load.Goals as goal
 
@@ -14,12 +13,10 @@ invariant_of-self c =
     return_tied c.args.channel c.self.inside.slots c.returned.new.self c.self.inside.hopper c.self.inside.board
     c.returned-2.new.self c.in-Ok.found
     (subst (λ (f : Flight). Pairs IsApart f.pending) (sym c.self.view_is) c.requires.apart)
-    (subst (λ (f : Flight). located (seek (arrival_at c.args.channel) f.pending) ≡ Some c.in-Ok.found)
-    (sym c.self.view_is) c.in-Ok.ensures.found) c.self.invariant c.returned.ensures c.returned-2.ensures
+    (grind arith) c.self.invariant c.returned.ensures c.returned-2.ensures
 
 pub returns-clause-arrival : goal.returns-clause-arrival
-returns-clause-arrival c =
-    what_there (seek (arrival_at c.args.channel) c.args.self.now.pending) c.in-Ok.found c.in-Ok.ensures.found
+returns-clause-arrival c = grind (arith, what_there)
 
 pub returns-clause-after : goal.returns-clause-after
 returns-clause-after c =

@@ -1,7 +1,7 @@
-use Rattle.std.proofs.Common.{◌∙◌, None, set, arith}
-use Rattle.std.proofs.lemmas.List.{length-set}
+use Rattle.std.proofs.Common.{rules}
+use Rattle.std.proofs.Common.{arith}
 use Rattle.in_flight.specs.Lookup.{kept}
-use Rattle.in_flight.proofs.in_slots.Moving.{place_read, place_out, read_unchanged, moved_right, moved_view, rest_within}
+use Rattle.in_flight.proofs.in_slots.Moving.{place_read, place_out, read_unchanged, moved_right, moved_view}
 use Rattle.in_flight.proofs.slots.Slots.accept.Goals as goal
 
 pub returns-in_default : goal.returns-in_default
@@ -9,12 +9,6 @@ returns-in_default c =
     read_unchanged (λ m. kept m c.args.later.now)
     (place_read c.index-self-index.result c.self.invariant c.self.view_is c.requires.place c.from-index.ensures
     c.in_default.is)
-
-pub put_rest-requires : goal.put_rest-requires
-put_rest-requires c =
-    rest_within (set c.self.inside.places c.from-index.result None) c.self.inside.channels c.args.later.now _
-    (length-set c.self.inside.places c.from-index.result None ∙ c.self.invariant.all_places)
-    c.self.invariant.all_channels c.requires.room
 
 pub invariant_of-self : goal.invariant_of-self
 invariant_of-self c =
@@ -26,6 +20,5 @@ invariant_of-self c =
 pub returns : goal.returns
 returns c =
     moved_view c.args.later.now
-    (place_read c.index-self-index.result c.self.invariant c.self.view_is c.requires.place c.from-index.ensures
-    c.in-Some.is) (place_out c.self.invariant (omega (arith, c.requires.place, c.from-index.ensures)))
+    (search (rules, place_read)) (place_out c.self.invariant (omega (arith, c.requires.place, c.from-index.ensures)))
     c.requires.room (c.put_rest.ensures.places, c.put_rest.ensures.channels)

@@ -1,3 +1,4 @@
+use Rattle.std.proofs.Common.{arith}
 use Rattle.scoreboard.proofs.in_slots.Small.{index_of, index_is}
 use Rattle.std.proofs.Common.{◌<◌, ap, sym, ◌∙◌, subst, [], ◌∷◌, ◌++◌}
 use Rattle.in_flight.specs.declared.pending.Stage.TheVariants.{Unread}
@@ -9,13 +10,13 @@ pub invariant_of-self : goal.invariant_of-self
 invariant_of-self c =
     new_right c.self.inside.units c.self.inside.places c.self.inside.channels (index_of c.args.pending.unit)
     c.args.pending Unread c.self.invariant (index_is c.args.pending.unit) c.requires.waits
-    (slot_free c.args.pending.unit c.self.invariant c.self.view_is (index_is c.args.pending.unit) c.requires.free)
+    (grind (arith, slot_free, index_is))
     (subst (Each (λ x. x.number < c.args.pending.number)) (sym c.self.view_is) c.requires.last)
 
 pub returns : goal.returns
 returns c =
     new_view c.self.inside.units c.self.inside.places c.self.inside.channels (index_of c.args.pending.unit)
     c.args.pending c.self.invariant (index_is c.args.pending.unit)
-    (slot_free c.args.pending.unit c.self.invariant c.self.view_is (index_is c.args.pending.unit) c.requires.free)
+    (grind (arith, slot_free, index_is))
     (subst (Each (λ x. x.number < c.args.pending.number)) (sym c.self.view_is) c.requires.last)
     ∙ ap (λ ms. ms ++ c.args.pending ∷ []) c.self.view_is

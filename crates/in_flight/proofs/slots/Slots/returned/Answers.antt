@@ -1,3 +1,4 @@
+use Rattle.std.proofs.Common.{rules}
 use Rattle.std.proofs.Common.{None, []}
 use Rattle.in_flight.specs.Lookup.{kept}
 use Rattle.in_flight.proofs.in_slots.Moving.{channel_read, channel_out, read_unchanged, moved_right, moved_view, no_rest}
@@ -20,6 +21,5 @@ pub returns : goal.returns
 unfolding kept
 returns c =
     moved_view None
-    (channel_read c.index-self-index.result c.self.invariant c.self.view_is c.requires c.from-index.ensures
-    c.in-Some.is) (channel_out c.from-index.result c.self.invariant) tt
+    (search (rules, channel_read)) (channel_out c.from-index.result c.self.invariant) tt
     (no_rest _ _ c.in-Some.field-0)

@@ -1,3 +1,5 @@
+use Rattle.std.proofs.Common.{arith}
+use Rattle.std.proofs.lemmas.Grind.{common_steps}
 use Rattle.scoreboard.proofs.in_slots.Small.{index_of, index_is}
 use Rattle.std.proofs.Common.{ap, sym, ◌∙◌, subst, [], ◌∷◌}
 use Rattle.std.proofs.lemmas.List.{set-get_or}
@@ -19,9 +21,7 @@ invariant_of-self c =
           (unit_read c.args.unit c.index-self-index.result c.self.invariant c.self.view_is (index_is c.args.unit)
           w.in-Some.is) (index_is c.args.unit))
       | in_default w ↦
-          subst (λ (x : Inside). IsRight x.units x.places x.channels) (sym w.self-inside-is)
-          (subst (λ us. IsRight us c.self.inside.places c.self.inside.channels)
-          (sym (set-get_or c.self.inside.units (index_of c.args.unit) c.index-self-index.result)) c.self.invariant)
+          grind (arith, common_steps)
     ]
 
 pub returns : goal.returns
