@@ -1,16 +1,13 @@
 -- The effect of reading a line on the reading of a deck.
-use Rattle.std.proofs.Common.{◌≡◌, ℕ, ◌+◌, ◌<◌, ◌≤◌, true, false, ltb, List, [], ◌∷◌, length, Option, None}
-use Rattle.std.proofs.Common.{Some, Ok, Result, refl}
-use Rattle.std.proofs.Common.{sym, inl, inr, Err}
-use Rattle.std.proofs.Common.{ap, ◌∙◌, ◌++◌, drop, subst, arith}
+use Rattle.std.proofs.Common.{◌≡◌, ℕ, ◌+◌, ◌<◌, ◌≤◌, true, false, ltb, List, [], ◌∷◌, length, Option, None, Some, Ok}
+use Rattle.std.proofs.Common.{Result, refl, sym, inl, inr, Err, ap, ◌∙◌, ◌++◌, drop, subst, arith}
 use Rattle.std.proofs.lemmas.Bool.{lt-ltb, le-ltb}
 use Rattle.std.proofs.Math.Seq.{drop-append_seam}
 use Rattle.device_text.specs.Device.{Moves}
 use Rattle.device_text.specs.Line.{IsText, LineTaken, left_after, lines_of}
 use Rattle.device_text.specs.declared.line.LineRead.TheVariants.{Whole, Long}
 use Rattle.device_text.proofs.Moving.{Moves-refl, Moves-weaker, Moves-trans}
-use Rattle.deck.specs.Deck.{Ends, Good, Bad, deck, goes_on, read_from, read_on}
-use Rattle.deck.specs.Deck.{applied_first, applied_line}
+use Rattle.deck.specs.Deck.{Ends, Good, Bad, deck, goes_on, read_from, read_on, applied_first, applied_line}
 use Rattle.std.specs.Prelude.{MatchResult, IfOk}
 use Rattle.deck.specs.Reading.{HasNoLine, Refuses, GivesNoDeck}
 use Rattle.deck.specs.declared.deck.Draft.{Draft}

@@ -1,7 +1,6 @@
 -- Laws of `Moves`: the effect of consecutive calls on known bytes.
 use Rattle.std.proofs.Common.{◌≡◌, ℕ, List, [], ◌++◌, Option, None, Some, subst, sym, ap, ◌∙◌, append_assoc, refl}
-use Rattle.std.proofs.Common.{append-nil, Result, Ok, Err, ◌-◌, ◌+◌, length, take, drop}
-use Rattle.std.proofs.Common.{◌<◌, suc, get_or, add-one}
+use Rattle.std.proofs.Common.{append-nil, Result, Ok, Err, ◌-◌, ◌+◌, length, take, drop, ◌<◌, suc, get_or, add-one}
 use Rattle.std.specs.List.{flat_map}
 use Rattle.std.proofs.lemmas.List.Concat.{flat_map-cons}
 use Rattle.std.proofs.Math.Seq.{take-add, drop-cons}

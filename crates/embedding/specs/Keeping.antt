@@ -1,8 +1,7 @@
 -- The calls that keep a machine for C: their results, and their effect on the machine.
 -- Source: ours.
-use Rattle.std.specs.Prelude.{◌≡◌, ◌⊎◌, ℕ, true, false, if◌then◌else◌, List, [], ◌∷◌, ◌++◌, length, drop}
-use Rattle.std.specs.Prelude.{Option, Some, None, is_none, is_some, unwrap_or, Result, Ok, Err, ⊤}
-use Rattle.std.specs.Prelude.{◌+◌, ◌-◌, ◌*◌}
+use Rattle.std.specs.Prelude.{◌≡◌, ◌⊎◌, ℕ, true, false, if◌then◌else◌, List, [], ◌∷◌, ◌++◌, length, drop, Option, Some}
+use Rattle.std.specs.Prelude.{None, is_none, is_some, unwrap_or, Result, Ok, Err, ⊤, ◌+◌, ◌-◌, ◌*◌}
 use Rattle.instructions.specs.declared.instr.Op.{Op}
 use Rattle.instructions.specs.declared.instr.Op.TheVariants.{Plain, Extended}
 use Rattle.instructions.specs.declared.refusal.Refusal.{Refusal}

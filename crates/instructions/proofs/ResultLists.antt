@@ -1,6 +1,5 @@
 -- The registers that an instruction sets, by its shape and by its row.
-use Rattle.std.proofs.Common.{arith}
-use Rattle.std.proofs.Common.{◌≡◌, ◌∙◌, ◌++◌, ◌∷◌, [], ℕ, Bool, true, false, List, cond, eqb, ap, refl, sym}
+use Rattle.std.proofs.Common.{arith, ◌≡◌, ◌∙◌, ◌++◌, ◌∷◌, [], ℕ, Bool, true, false, List, cond, eqb, ap, refl, sym}
 use Rattle.std.specs.Prelude.{Option, Some, None, option_to_list}
 use Rattle.instructions.specs.declared.instr.Addends.TheVariants.{Address, Registers}
 use Rattle.instructions.specs.declared.instr.Instr.{Instr}

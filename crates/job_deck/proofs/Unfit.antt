@@ -13,9 +13,8 @@ use Rattle.sequential.specs.Replay.{Exchanged, boot, replay}
 use Rattle.sequential.specs.Swap.{swap}
 use Rattle.job_deck.proofs.Fitting.{Lies}
 use Rattle.sequential_run.specs.Run.{IsUnfitRun}
-use Rattle.sequential_run.specs.Turns.{Moment, Turn, Exchanges, Asks, AsksFree, Issues, Ends}
-use Rattle.sequential_run.specs.Turns.{begun, first_due, is_going, is_in_mid_word, issue_or_end, next_turn, take_turn}
-use Rattle.sequential_run.specs.Turns.{turn_by, turns}
+use Rattle.sequential_run.specs.Turns.{Moment, Turn, Exchanges, Asks, AsksFree, Issues, Ends, begun, first_due}
+use Rattle.sequential_run.specs.Turns.{is_going, is_in_mid_word, issue_or_end, next_turn, take_turn, turn_by, turns}
 use Rattle.sequential_run.proofs.Ending.{turns_replay}
 use Rattle.sequential_run.proofs.Ordered.{tie, tied}
 

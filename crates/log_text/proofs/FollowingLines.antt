@@ -17,7 +17,7 @@ use Rattle.sequential.specs.Replay.{LogStep}
 use Rattle.device_text.specs.Line.{IsTaken, IsText, ReadsPart, lines_of, onto}
 use Rattle.device_text.specs.Text.{fields_of}
 use Rattle.device_text.proofs.Lines.{lines_whole}
-use Rattle.log_text.specs.FollowingLog.{LeavesAfterText, ReadsLogLine, ReadsWithinLine, first_text, following_line}
+use Rattle.log_text.specs.FollowingLog.{LeavesAfterText, ReadsLogLine, first_text, following_line}
 use Rattle.log_text.specs.inner.LogLineParts.{FieldTaken, IsInField, ReadsEntries, ReadsSomeEntries, is_none_line}
 use Rattle.log_text.specs.LogText.{AddsField, LogHas, entry_in, log_in, put_steps, spent, steps_in, whole_allowance}
 use Rattle.log_text.specs.declared.following_log.FieldEnd.{FieldEnd}
@@ -358,16 +358,3 @@ entries_and_part a b c first end start text now steps left h is part m t =
     (λ xs ys zs r e after f. inr (text_part after now ys zs part.0 e
     (space_part after text (r after f).now ys h.0 (r after f).taken (r after f).part)))
     (subst (λ e. Moves a b (ReadsOn first start steps left e text)) is m) t
-
-pub first_part_read : (a b : Option (List ℕ)) (text : List ℕ) → IsInField text → Moves a b (λ xs ys. xs ≡ text ++ ys)
-    → Moves a b ReadsWithinLine
-first_part_read a b text h m =
-    Moves-weaker a b (λ xs ys. xs ≡ text ++ ys) ReadsWithinLine (λ xs ys e. inr (text, h.0, e)) m
-
-pub entries_failed : (a b c : Option (List ℕ)) (end : FieldEnd) (result : Result (Option Log) Refusal)
-    (text : List ℕ) → Moves a b (FieldTaken end text) → OnErr result (Moves b c (ReadsSomeEntries end text))
-    → OnErr result (Moves a c ReadsWithinLine)
-entries_failed a b c end (Ok found) text m r = r
-entries_failed a b c end (Err refusal) text m r =
-    Moves-trans a b c (FieldTaken end text) (ReadsSomeEntries end text) ReadsWithinLine
-    (λ xs ys zs t f. f xs t) m r

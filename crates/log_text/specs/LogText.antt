@@ -1,8 +1,7 @@
 -- The steps that the text of a log lists.
 -- Source: ours.
 use Rattle.std.specs.Prelude.{◌≡◌, ℕ, ◌+◌, ◌-◌, ◌≤◌, Bool, true, false, ◌||◌, ◌==◌, nat_lt, if◌then◌else◌, List, []}
-use Rattle.std.specs.Prelude.{◌∷◌, ◌++◌}
-use Rattle.std.specs.Prelude.{Option, Some, None, codes, option_map, option_and_then}
+use Rattle.std.specs.Prelude.{◌∷◌, ◌++◌, Option, Some, None, codes, option_map, option_and_then}
 use Rattle.std.specs.List.{slice_split}
 use Rattle.std.specs.Str.{bytes_eq}
 use Rattle.word60.specs.Words.{from_octal}

@@ -1,6 +1,5 @@
 -- An event under the lock: the log after it, the facts in its answer, and its caller's pass.
-use Rattle.std.proofs.Common.{◌≡◌, ℕ, length, Bool, true, false, List, [], ◌∷◌, ◌++◌, Option, Some, None, refl}
-use Rattle.std.proofs.Common.{sym, ap}
+use Rattle.std.proofs.Common.{◌≡◌, ℕ, length, Bool, true, false, List, [], ◌∷◌, ◌++◌, Option, Some, None, refl, sym, ap}
 use Rattle.std.proofs.Common.{◌∙◌, subst, get_or, inl, inr}
 use Rattle.std.proofs.lemmas.List.{append-nil}
 use Rattle.std.specs.Prelude.{Result, Ok, Err, MatchResult}
@@ -29,9 +28,8 @@ use Rattle.program_order.proofs.theorem.Theorem.{made_allowed}
 use Rattle.atomic_table.specs.Seated.{TableId}
 use Rattle.atomic_table.specs.Table.{Me}
 use Rattle.atomic_table.specs.declared.shared.Seat.{Seat}
-use Rattle.machine_lock.specs.CallerKnowledge.{Known, known, StartsWith, IsMade, Learnt, IsNoteOf}
-use Rattle.machine_lock.specs.CallerKnowledge.{IsWhyOf}
-use Rattle.machine_lock.specs.CallerKnowledge.{Booted, booted_by, booted_with, HasReplay, IsWordOf}
+use Rattle.machine_lock.specs.CallerKnowledge.{Known, known, StartsWith, IsMade, Learnt, IsNoteOf, IsWhyOf, Booted}
+use Rattle.machine_lock.specs.CallerKnowledge.{booted_by, booted_with, HasReplay, IsWordOf}
 use Rattle.machine.specs.OneEvent.{IsEvent}
 use Rattle.machine_lock.specs.Held.{IsCurrent, IsHeldEvent, Kept, with_processor}
 use Rattle.machine_lock.specs.inner.LockInvariant.{IsLocked, IsLogged, last_step}

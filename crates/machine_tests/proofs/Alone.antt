@@ -13,8 +13,7 @@ use Rattle.hopper.specs.Queue.{stands_at, is_taken as taken_in, place_for as fre
 use Rattle.relocation.specs.declared.area.Access.TheVariants.{Store}
 use Rattle.scoreboard.specs.Issued.{channel_of}
 use Rattle.in_flight.specs.declared.referring.Relocated.{Relocated}
-use Rattle.in_flight.specs.Pending.{left_to_return}
-use Rattle.in_flight.specs.Pending.{returning}
+use Rattle.in_flight.specs.Pending.{left_to_return, returning}
 use Rattle.in_flight.specs.declared.pending.Pending.{Pending}
 use Rattle.in_flight.specs.declared.pending.Stage.{Stage}
 use Rattle.in_flight.specs.Flight.{Flight, IsRestOf, reserved_in, entering, outstanding_of}

@@ -1,17 +1,15 @@
 -- Consecutive steps, and the entries of a log one by one.
-use Rattle.std.specs.Prelude.{option_and_then}
+use Rattle.std.specs.Prelude.{option_and_then, replicate, Result, Ok, Err, MatchResult, OnOk, IfErr}
 use Rattle.std.proofs.Common.{◌≡◌, ◌<◌, ◌≤◌, ◌+◌, ◌-◌, ℕ, zero, suc, true, false, cond, List, [], ◌∷◌, ◌++◌, Option}
 use Rattle.std.proofs.Common.{Some, None, length, take, drop, get_or, is_some, refl, sym, ap, ◌∙◌, append_assoc}
 use Rattle.std.proofs.Common.{Bool, append-nil, add-one, arith}
-use Rattle.std.specs.Prelude.{replicate, Result, Ok, Err, MatchResult, OnOk, IfErr}
 use Rattle.instructions.specs.declared.refusal.Halt.{Halt}
 use Rattle.instructions.specs.declared.refusal.Refusal.{Refusal}
 use Rattle.sequential.specs.declared.log.Entry.{Entry}
 use Rattle.sequential.specs.declared.log.Entry.TheVariants.{Issued as Count}
 use Rattle.sequential.specs.declared.state.State.{State}
 use Rattle.sequential.specs.Log.{steps_of}
-use Rattle.sequential.specs.Replay.{LogStep, Issued, IsRefusedAt, do_log_step, replay}
-use Rattle.sequential.specs.Replay.{step_refusal}
+use Rattle.sequential.specs.Replay.{LogStep, Issued, IsRefusedAt, do_log_step, replay, step_refusal}
 use Rattle.sequential.specs.Step.{step, step_unless}
 use Rattle.sequential.proofs.Entries.{steps-append}
 

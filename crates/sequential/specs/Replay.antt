@@ -1,8 +1,7 @@
 -- The log, and its replay on the machine step by step.
 -- Source: ours.
-use Rattle.std.specs.Prelude.{option_and_then}
-use Rattle.std.specs.Prelude.{ℕ, ◌≡◌, false, nat_lt, if◌then◌else◌, List, [], ◌∷◌, ◌++◌, Option, Some, None, length}
-use Rattle.std.specs.Prelude.{replicate}
+use Rattle.std.specs.Prelude.{option_and_then, ℕ, ◌≡◌, false, nat_lt, if◌then◌else◌, List, [], ◌∷◌, ◌++◌, Option, Some}
+use Rattle.std.specs.Prelude.{None, length, replicate}
 use Rattle.instructions.specs.declared.refusal.Halt.TheVariants.{Stop}
 use Rattle.instructions.specs.declared.refusal.Refusal.{Refusal}
 use Rattle.instructions.specs.declared.refusal.Refusal.TheVariants.{PackageRange, PeripheralRange}

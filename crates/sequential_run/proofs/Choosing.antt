@@ -2,8 +2,7 @@
 -- and otherwise a request at any time.
 use Rattle.std.proofs.Common.{◌≡◌, ◌⊎◌, inl, inr, ◌<◌, ◌≤◌, ◌+◌, ℕ, Bool, true, false, cond, not, ◌&&◌, ◌||◌, length}
 use Rattle.std.proofs.Common.{List, [], ◌∷◌, refl, sym, ap, subst, ◌∙◌, arith, leb-true, le-leb}
-use Rattle.std.proofs.lemmas.Bool.{lt-ltb}
-use Rattle.std.proofs.lemmas.Bool.{eqb-true, eq-eqb, leb-false}
+use Rattle.std.proofs.lemmas.Bool.{lt-ltb, eqb-true, eq-eqb, leb-false}
 use Rattle.std.specs.Prelude.{drop, nat_eq, nat_le}
 use Rattle.sequential_run.specs.Fulfilled.{is_in_time, is_next_ask, is_next_free, are_done, fulfils}
 use Rattle.sequential_run.specs.inner.Judging.{starts_with_due, is_of_ask, AreWithin}

@@ -1,7 +1,6 @@
 -- A run to its end.
-use Rattle.std.proofs.Common.{◌≡◌, ◌≤◌, ◌+◌, ℕ, zero, suc, Bool, true, false, cond, List, [], ◌∷◌, ◌++◌}
-use Rattle.std.proofs.Common.{◌&&◌, ◌||◌, Option, Some, None, is_some, not}
-use Rattle.std.proofs.Common.{length, refl, arith}
+use Rattle.std.proofs.Common.{◌≡◌, ◌≤◌, ◌+◌, ℕ, zero, suc, Bool, true, false, cond, List, [], ◌∷◌, ◌++◌, ◌&&◌, ◌||◌}
+use Rattle.std.proofs.Common.{Option, Some, None, is_some, not, length, refl, arith}
 use Rattle.std.specs.Prelude.{is_none, nat_le, nat_lt}
 use Rattle.sequential_run.specs.Fulfilled.{IsFulfilled}
 use Rattle.program_order.proofs.theorem.Headline.{replay_faulted}
@@ -12,9 +11,8 @@ use Rattle.sequential.specs.Replay.{LogStep, Issued, Exchanged, boot, replay, do
 use Rattle.sequential.specs.Swap.{swap}
 use Rattle.sequential.proofs.Runs.{replay_on}
 use Rattle.sequential_run.specs.declared.course.Course.{Course}
-use Rattle.sequential_run.specs.Turns.{Moment, Turn, Exchanges, Asks, AsksFree, Issues, Ends}
-use Rattle.sequential_run.specs.Turns.{is_going, is_in_mid_word, issue_or_end, turn_by, next_turn, take_turn}
-use Rattle.sequential_run.specs.Turns.{turns, begun}
+use Rattle.sequential_run.specs.Turns.{Moment, Turn, Exchanges, Asks, AsksFree, Issues, Ends, is_going, is_in_mid_word}
+use Rattle.sequential_run.specs.Turns.{issue_or_end, turn_by, next_turn, take_turn, turns, begun}
 use Rattle.sequential_run.specs.inner.Course.{IsKept, IsBegun, Goes, Went, moment_of}
 use Rattle.sequential_run.specs.Run.{EndsAt, IsRun, IsSequentialRun, is_over}
 use Rattle.sequential_run.proofs.Turning.{more_turns}

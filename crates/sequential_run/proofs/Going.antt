@@ -17,8 +17,7 @@ use Rattle.sequential_run.specs.Turns.{issue_or_end, first_due, next_turn, take_
 use Rattle.sequential_run.specs.inner.Stepping.{StepsTo}
 use Rattle.sequential_run.specs.inner.Course.{IsKept, CanIssue, IsIssued, Goes, IsWhyRefused, left_at, moment_of}
 use Rattle.sequential_run.proofs.Turning.{same_moment, one_turn, exchange_next, ask_next, free_next, quiet_next}
-use Rattle.sequential_run.proofs.Turning.{IsQuiet}
-use Rattle.sequential_run.proofs.Turning.{issues_turns, due_first, none_due}
+use Rattle.sequential_run.proofs.Turning.{IsQuiet, issues_turns, due_first, none_due}
 
 -- ---- an exchange ----
 

@@ -1,7 +1,6 @@
 -- The events of a run that does one instruction at a time.
 use Rattle.std.proofs.Common.{◌≡◌, ◌<◌, ◌≤◌, ◌+◌, ℕ, zero, suc, Bool, true, false, ◌&&◌, not, cond, List, [], ◌∷◌, ◌++◌}
-use Rattle.std.proofs.Common.{Option, Some, None, length, is_some, is_none, refl, sym, ap, arith, inl}
-use Rattle.std.proofs.Common.{ltb-true}
+use Rattle.std.proofs.Common.{Option, Some, None, length, is_some, is_none, refl, sym, ap, arith, inl, ltb-true}
 use Rattle.std.specs.Prelude.{nat_lt, Result, Ok, drop, option_to_list}
 use Rattle.std.proofs.lemmas.Option.{same_Some}
 use Rattle.instructions.specs.declared.refusal.Halt.{Halt}

@@ -1,8 +1,7 @@
 -- The next turn of a run by one instruction at a time, and the end of the run.
 -- Source: ours; the exchange jump and the effects of instructions are the 6600's (60100000).
-use Rattle.std.specs.Prelude.{ℕ, zero, suc, Bool, true, false, ◌&&◌, nat_lt, nat_le, not, if◌then◌else◌}
-use Rattle.std.specs.Prelude.{is_some, is_none}
-use Rattle.std.specs.Prelude.{List, [], ◌∷◌, ◌++◌, Option, Some, None, length, drop}
+use Rattle.std.specs.Prelude.{ℕ, zero, suc, Bool, true, false, ◌&&◌, nat_lt, nat_le, not, if◌then◌else◌, is_some}
+use Rattle.std.specs.Prelude.{is_none, List, [], ◌∷◌, ◌++◌, Option, Some, None, length, drop}
 use Rattle.relocation.specs.Relocation.{package_fits}
 use Rattle.sequential.specs.declared.state.State.{State}
 use Rattle.sequential.specs.Log.{issued}

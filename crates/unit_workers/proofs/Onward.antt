@@ -1,12 +1,11 @@
 -- Knowledge that extends earlier knowledge.
-use Rattle.std.proofs.Common.{true, ◌≡◌, ◌≤◌, List, ◌∷◌, [], ◌++◌, refl, sym, ap, ◌∙◌, append_assoc, subst}
+use Rattle.std.proofs.Common.{◌≡◌, ◌≤◌, List, ◌∷◌, [], ◌++◌, refl, sym, ap, ◌∙◌, append_assoc, subst}
 use Rattle.std.specs.Prelude.{Result, Ok, Err, IfOk}
 use Rattle.std.proofs.lemmas.List.{append-nil}
 use Rattle.program_order.specs.SnapshotView.{Snapped}
 use Rattle.sequential.specs.Log.{issued}
 use Rattle.sequential.specs.Replay.{LogStep}
 use Rattle.machine_lock.specs.CallerKnowledge.{Booted, Known, StartsWith, IsMade, Learnt}
-use Rattle.unit_workers.specs.Ending.{is_at_end}
 use Rattle.unit_workers.specs.Onward.{GoesOnFrom, EndsFrom}
 
 pub longer : (xs ys zs : List LogStep) → StartsWith ys xs → StartsWith zs ys → StartsWith zs xs
@@ -27,12 +26,6 @@ made_on x a b m =
       booted = ap (λ (k : Known). k.booted) m.2;
       log = longer a.log m.0 b.log m.1 (x ∷ [], ap (λ (k : Known). k.log) m.2);
     }
-
--- a snapshot of just what was seen
-pub ends_with : (k : Known) (s : Snapped) → s.boot_memory ≡ k.booted.memory → s.budget ≡ k.booted.budget
-    → s.log ≡ k.log → issued s.log ≤ k.booted.budget → is_at_end s ≡ true → EndsFrom k s
-ends_with k s m b l w e =
-    record { boot_memory = m; budget = b; log = ([], l ∙ sym (append-nil k.log)); within = w; at_end = e }
 
 ends_through : (a b : Known) (s : Snapped) → GoesOnFrom a b → EndsFrom b s → EndsFrom a s
 ends_through a b s o h = record {

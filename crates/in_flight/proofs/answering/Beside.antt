@@ -14,8 +14,7 @@ use Rattle.instructions.specs.declared.refusal.Refusal.TheVariants.{Nothing, Hop
 use Rattle.instructions.specs.Each.{Each, Pairs}
 use Rattle.instructions.specs.RegisterLists.{overlap}
 use Rattle.instructions.specs.Shape.{shape_of, results, is_branch_shape}
-use Rattle.instructions.proofs.Lists.{each_left, each_right, each_append, each_map, each_of_any, pairs_before}
-use Rattle.instructions.proofs.Lists.{any_same}
+use Rattle.instructions.proofs.Lists.{each_left, each_right, each_append, each_map, each_of_any, pairs_before, any_same}
 use Rattle.hopper.specs.Hopper.{first_place, free_place}
 use Rattle.hopper.specs.Queue.{Queue, stands_at, is_for, stores_here, place_for as free_in, is_taken as taken_in}
 use Rattle.hopper.specs.Queue.{free_answer}
@@ -45,27 +44,23 @@ use Rattle.in_flight.specs.declared.pending.Phase.TheVariants.{Before, After}
 use Rattle.in_flight.specs.declared.pending.Stage.{Stage}
 use Rattle.in_flight.specs.declared.pending.Stage.TheVariants.{Unread, Read, Finished}
 use Rattle.in_flight.specs.declared.slots.Located.{Located}
-use Rattle.in_flight.specs.inner.Board.{on_board}
+use Rattle.in_flight.specs.inner.Board.{on_board, IsTied}
 use Rattle.in_flight.specs.Tests.{refusal_in, store_conflicts, Test, refusal_of, nothing, tests_found, read_tests}
 use Rattle.in_flight.specs.Tests.{return_tests, free_tests, reservation_tests, unit_for}
 use Rattle.in_flight.specs.Flight.{Flight, flight_of, reserved_in, with_pending}
-use Rattle.in_flight.specs.Lookup.{waiting_in, waiting}
-use Rattle.in_flight.specs.inner.Board.{IsTied}
-use Rattle.in_flight.specs.Pending.{has_read, reservation_of, occupancy_of, awaited, is_branch}
-use Rattle.in_flight.specs.Pending.{has_turn}
-use Rattle.in_flight.specs.Pending.{stores_in, waits_in, delays_fetch, delays_access}
+use Rattle.in_flight.specs.Lookup.{waiting_in, waiting, located, stage_at, stage_in, arrival_at, arrival_in, entry_at}
+use Rattle.in_flight.specs.Lookup.{entry_in, in_place, place_for, is_pending, in_phase}
+use Rattle.in_flight.specs.Pending.{has_read, reservation_of, occupancy_of, awaited, is_branch, has_turn, stores_in}
+use Rattle.in_flight.specs.Pending.{waits_in, delays_fetch, delays_access}
 use Rattle.in_flight.proofs.asking.PendingReservations.{comes}
 use Rattle.in_flight.proofs.Opened.{coming}
-use Rattle.in_flight.specs.Lookup.{located, stage_at, stage_in, arrival_at, arrival_in, entry_at, entry_in, in_place}
-use Rattle.in_flight.specs.Lookup.{place_for, is_pending, in_phase}
 use Rattle.instructions.specs.Finding.{replaced, Found, seek, put_back}
 use Rattle.in_flight.specs.inner.Slots.{has_none}
 use Rattle.in_flight.specs.Apart.{IsApart}
 use Rattle.instructions.proofs.Finding.{seek_splits, seek_nobody}
 use Rattle.in_flight.proofs.asking.Finding.{stage_found}
 use Rattle.in_flight.proofs.answering.Boarding.{arrival_in_there, board_any, no_turn, read_of_all, store_of_all}
-use Rattle.in_flight.proofs.answering.Boarding.{turn_of_all}
-use Rattle.in_flight.proofs.answering.Boarding.{return_of_all, read_follows, stage_follows, return_follows}
+use Rattle.in_flight.proofs.answering.Boarding.{turn_of_all, return_of_all, read_follows, stage_follows, return_follows}
 use Rattle.in_flight.proofs.answering.Boarding.{issue_follows, same_free, same_awaited}
 
 -- ---- the found instruction ----

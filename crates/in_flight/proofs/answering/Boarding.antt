@@ -19,8 +19,7 @@ use Rattle.scoreboard.specs.declared.reservation.Occupancy.{Occupancy}
 use Rattle.scoreboard.specs.declared.reservation.Occupancy.TheVariants.{Reserved, Left}
 use Rattle.scoreboard.specs.declared.reservation.Reservation.{Reservation}
 use Rattle.scoreboard.specs.Reservations.{is_reserved, returning_to, to_come, to_come_in, reads, reads_in, comes}
-use Rattle.scoreboard.specs.Reservations.{reads_it}
-use Rattle.scoreboard.specs.Reservations.{holds, has_turn}
+use Rattle.scoreboard.specs.Reservations.{reads_it, holds, has_turn}
 use Rattle.scoreboard.specs.Units.{same_unit}
 use Rattle.scoreboard.specs.Conflicts.{awaited, to_be_read, first_such, out_of_turn, is_held, free_unit}
 use Rattle.unit_ops.specs.declared.Operands.{Operands}
@@ -40,11 +39,10 @@ use Rattle.in_flight.specs.declared.pending.Phase.{Phase}
 use Rattle.in_flight.specs.declared.pending.Phase.TheVariants.{Before, After}
 use Rattle.in_flight.specs.declared.pending.Stage.{Stage}
 use Rattle.in_flight.specs.declared.pending.Stage.TheVariants.{Unread, Read, Finished}
-use Rattle.in_flight.specs.Pending.{has_read, returning, occupancy_of, reservation_of}
+use Rattle.in_flight.specs.Pending.{has_read, returning, occupancy_of, reservation_of, left_to_return}
 use Rattle.instructions.specs.Finding.{Found, found_further, found_here, seek, put_back, replaced}
 use Rattle.in_flight.specs.Lookup.{arrival_in, stage_in, stage_at, entry_at, arrival_at, in_phase, kept}
 use Rattle.in_flight.specs.inner.Board.{issued_of, kept_on, on_board}
-use Rattle.in_flight.specs.Pending.{left_to_return}
 use Rattle.instructions.proofs.Finding.{seek_splits, seek_around}
 use Rattle.in_flight.proofs.asking.Finding.{stage_found, entry_in_found}
 

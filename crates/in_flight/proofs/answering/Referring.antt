@@ -12,8 +12,7 @@ use Rattle.instructions.specs.Each.{Each, Pairs}
 use Rattle.instructions.specs.Finding.{Found as FoundIn, seek as seek_in, put_back as put_back_of, replaced, Found}
 use Rattle.instructions.specs.Finding.{seek, found_here, found_further, put_back}
 use Rattle.instructions.specs.RegisterLists.{is_in, overlap}
-use Rattle.instructions.specs.Shape.{Shape, Loads, shape_of, results, sets_of, loads_of}
-use Rattle.instructions.specs.Shape.{has_reference}
+use Rattle.instructions.specs.Shape.{Shape, Loads, shape_of, results, sets_of, loads_of, has_reference}
 use Rattle.instructions.proofs.Lists.{any_right, each_append, each_map, each_of_any, pairs_before, pairs_right}
 use Rattle.relocation.specs.declared.area.Access.{Access}
 use Rattle.relocation.specs.declared.area.Access.TheVariants.{Load, Store}
@@ -34,16 +33,12 @@ use Rattle.in_flight.specs.declared.pending.Pending.{Pending}
 use Rattle.in_flight.specs.declared.pending.Phase.{Phase}
 use Rattle.in_flight.specs.declared.pending.Phase.TheVariants.{Before, After}
 use Rattle.in_flight.specs.declared.pending.Stage.{Stage}
-use Rattle.in_flight.specs.inner.Board.{on_board}
-use Rattle.in_flight.specs.Pending.{left_to_return}
+use Rattle.in_flight.specs.inner.Board.{on_board, IsTied}
+use Rattle.in_flight.specs.Pending.{left_to_return, reservation_of, occupancy_of, returning, to_come, has_turn}
+use Rattle.in_flight.specs.Pending.{is_entered, entered_in, holds_back, holds_back_in}
 use Rattle.in_flight.specs.Tests.{refusal_in, refusal_of, nothing, tests_found, accept_tests}
-use Rattle.in_flight.specs.Flight.{left_by, Flight, flight_of, IsRestOf, entering, outstanding_of}
-use Rattle.in_flight.specs.inner.Board.{IsTied}
-use Rattle.in_flight.specs.Flight.{with_pending}
+use Rattle.in_flight.specs.Flight.{left_by, Flight, flight_of, IsRestOf, entering, outstanding_of, with_pending}
 use Rattle.in_flight.specs.Lookup.{waiting_in, waiting}
-use Rattle.in_flight.specs.Pending.{reservation_of, occupancy_of, returning, to_come, has_turn, is_entered, entered_in}
-use Rattle.in_flight.specs.Pending.{holds_back}
-use Rattle.in_flight.specs.Pending.{holds_back_in}
 use Rattle.in_flight.specs.inner.OwnSlots.{HasOwnSlots, IsChannel, IsPlaced}
 use Rattle.in_flight.specs.inner.Slots.{slot_in, slot_of, AreElsewhere, HasRoom}
 use Rattle.in_flight.specs.Lookup.{located, stage_at, entry_at, entry_in, in_place, place_for, enters, in_phase, kept}
@@ -178,11 +173,6 @@ accept_found p ms queue a r e k h = by_found (seek (entry_at p) ms) refl
       refl,
       taken_is queue.busy (in_queue p f) r (sym (ap (accept_answer queue.busy) (queue_found p ms f i)) ∙ here),
     )
-
-pub entry_answered : (p : ℕ) (ms : List Pending) (f : Found Pending Reference) (r : Reference)
-    → seek (entry_at p) ms ≡ Some f → f.answer ≡ r
-    → IfSome (seek (entry_at p) ms) (λ x. x.answer ≡ record { address = r.address; access = r.access })
-entry_answered p ms f r h e = grind arith
 
 -- the place, address and channel of the reference
 pub entry_placed : (size p : ℕ) (ms : List Pending) (f : Found Pending Reference) → HasOwnSlots size ms

@@ -10,11 +10,9 @@ use Rattle.scoreboard.specs.Units.{unit_number, same_unit}
 use Rattle.instructions.specs.Each.{Each, Pairs}
 use Rattle.instructions.specs.Order.{insert_by, sort_by, somes, IsInSlots}
 use Rattle.instructions.proofs.Lists.{each_map}
-use Rattle.instructions.proofs.Slots.{in_slots_here, in_slots_empty, in_slots_fill}
-use Rattle.instructions.proofs.Slots.{slot_any, slot_empty}
-use Rattle.instructions.proofs.Slots.{slots_below, before_slot, after_slot, found_nobody, within}
-use Rattle.instructions.proofs.Slots.{others_differ, own_taken, own_put, taken_without, moved_with, sort_new}
-use Rattle.instructions.proofs.Slots.{each_taken}
+use Rattle.instructions.proofs.Slots.{in_slots_here, in_slots_empty, in_slots_fill, slot_any, slot_empty, slots_below}
+use Rattle.instructions.proofs.Slots.{before_slot, after_slot, found_nobody, within, others_differ, own_taken, own_put}
+use Rattle.instructions.proofs.Slots.{taken_without, moved_with, sort_new, each_taken}
 use Rattle.scoreboard.proofs.in_slots.InSlots.{get_back, set_back, unit_below}
 use Rattle.in_flight.specs.declared.pending.Arrival.{Arrival}
 use Rattle.hopper.specs.declared.reference.Reference.{Reference}

@@ -6,8 +6,7 @@ use Rattle.instructions.specs.declared.instr.Op.{Op}
 use Rattle.instructions.specs.declared.instr.Op.TheVariants.{Plain, Extended}
 use Rattle.instruction_table.specs.declared.decoding.TableEntry.{TableEntry}
 use Rattle.instruction_table.specs.declared.decoding.TableEntry.TheVariants.{Short, Long, Refused}
-use Rattle.instruction_table.specs.Decoding.{entry}
-use Rattle.instruction_table.specs.Decoding.{rows, entry_of}
+use Rattle.instruction_table.specs.Decoding.{entry, rows, entry_of}
 use Rattle.instruction_table.specs.Opcode.{op_at}
 
 abbrev pub refused_op : TableEntry → Option Op

@@ -1,7 +1,6 @@
 -- The answers if no deck was read or no machine booted.
 use Rattle.std.proofs.Common.{◌≡◌, ◌∙◌, ◌⊎◌, ℕ, true, false, Result, List, length, Option, None, Some, Err, inl, inr}
-use Rattle.std.proofs.Common.{refl}
-use Rattle.std.proofs.Common.{ap, arith}
+use Rattle.std.proofs.Common.{refl, ap, arith}
 use Rattle.std.proofs.KnownBytes.{Keeps-refl}
 use Rattle.instructions.specs.declared.refusal.Refusal.{Refusal}
 use Rattle.instructions.specs.declared.refusal.Refusal.TheVariants as refusals

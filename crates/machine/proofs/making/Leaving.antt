@@ -15,9 +15,8 @@ use Rattle.in_flight.specs.declared.referring.Relocated.{Relocated}
 use Rattle.in_flight.specs.declared.pending.Pending.{Pending}
 use Rattle.in_flight.specs.declared.pending.Stage.{Stage}
 use Rattle.in_flight.specs.declared.pending.Stage.TheVariants.{Finished}
-use Rattle.in_flight.specs.Pending.{left_to_return}
+use Rattle.in_flight.specs.Pending.{left_to_return, returning}
 use Rattle.in_flight.specs.Flight.{entering, outstanding_of, relocated, IsRestOf}
-use Rattle.in_flight.specs.Pending.{returning}
 use Rattle.in_flight.specs.Lookup.{located, enters, place_for, stage_at}
 use Rattle.instructions.specs.Finding.{Found, seek}
 use Rattle.program_order.specs.Processor.{Processor}

@@ -47,13 +47,12 @@ use Rattle.in_flight.specs.declared.pending.Stage.{Stage}
 use Rattle.in_flight.specs.declared.pending.Stage.TheVariants.{Unread, Read as HasRead, Finished}
 use Rattle.in_flight.specs.Tests.{refusal_in, refusal_of, tests_found, read_tests, accept_tests, return_tests}
 use Rattle.in_flight.specs.Tests.{free_tests, reservation_tests}
-use Rattle.in_flight.specs.Flight.{left_by, Flight, outstanding_of, reserved_in, unit_taken, with_pending}
+use Rattle.in_flight.specs.Flight.{left_by, Flight, outstanding_of, reserved_in, unit_taken, with_pending, relocated}
 use Rattle.program_order.specs.Run.{note_by, done_by, answer_by, answer_of, settled}
 use Rattle.in_flight.specs.Lookup.{located, stage_at, entry_at, arrival_at, place_for, in_phase, kept, is_pending}
 use Rattle.instructions.specs.Finding.{replaced, Found, seek, put_back}
 use Rattle.machine.specs.inner.View.{owed, IsKept, processor_of}
 use Rattle.program_order.specs.Processor.{Processor, boot_processor, completed, replayed}
-use Rattle.in_flight.specs.Flight.{relocated}
 use Rattle.program_order.specs.Units.{finish_tests, store_tests, rest_of, stage_after_read, stage_after_finish}
 use Rattle.program_order.specs.Units.{after_read, after_finish, after_work, after_store}
 use Rattle.program_order.specs.Exchange.{ask_tests, exchange_tests, after_exchange}

@@ -23,9 +23,8 @@ use Rattle.in_flight.specs.declared.slots.Located.{Located}
 use Rattle.in_flight.specs.Flight.{Flight, with_pending}
 use Rattle.in_flight.specs.Lookup.{located, in_phase, stage_at, stage_in}
 use Rattle.instructions.specs.Finding.{replaced, Found, put_back, seek}
-use Rattle.machine.specs.Tokens.{Computation, Reading, ServedReservation, Seating, finished_in}
-use Rattle.machine.specs.Tokens.{read_of}
-use Rattle.machine.specs.Tokens.{reading_at, reading_in, slot, unread_in}
+use Rattle.machine.specs.Tokens.{Computation, Reading, ServedReservation, Seating, finished_in, read_of, reading_at}
+use Rattle.machine.specs.Tokens.{reading_in, slot, unread_in}
 use Rattle.program_order.specs.Processor.{Processor}
 use Rattle.program_order.specs.Events.{after, allowed, tests_of}
 use Rattle.program_order.specs.Units.{finish_tests}

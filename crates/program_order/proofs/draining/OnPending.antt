@@ -1,6 +1,5 @@
 -- `drain` makes only events that serve a pending instruction; issues and exchanges aren't among them.
-use Rattle.std.proofs.Common.{◌≡◌, ℕ, Bool, true, false, List, ◌∷◌, Option, Some, None, refl, sym, ap, ◌∙◌}
-use Rattle.std.proofs.Common.{arith}
+use Rattle.std.proofs.Common.{◌≡◌, ℕ, Bool, true, false, List, ◌∷◌, Option, Some, None, refl, sym, ap, ◌∙◌, arith}
 use Rattle.std.specs.Prelude.{◌||◌, IfSome, is_some}
 use Rattle.std.specs.List.{list_any}
 use Rattle.std.proofs.lemmas.Bool.{eq-eqb}
@@ -14,8 +13,7 @@ use Rattle.in_flight.specs.declared.pending.Phase.TheVariants.{Before, After}
 use Rattle.in_flight.specs.declared.pending.Stage.{Stage}
 use Rattle.in_flight.specs.Lookup.{in_place, is_pending}
 use Rattle.program_order.specs.declared.event.Event.{Event}
-use Rattle.program_order.specs.declared.event.Event.TheVariants.{Issue}
-use Rattle.program_order.specs.declared.event.Event.TheVariants.{Ask, Exchange, PpRead, PpWrite}
+use Rattle.program_order.specs.declared.event.Event.TheVariants.{Issue, Ask, Exchange, PpRead, PpWrite}
 use Rattle.program_order.specs.Drain.{holds_unit, in_channel, next_in, next_of, waits_for, waits_for_in, works_on}
 use Rattle.program_order.proofs.draining.Draining.{arrival_first, entry_first, stage_first}
 

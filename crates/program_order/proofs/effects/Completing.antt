@@ -10,9 +10,8 @@ use Rattle.std.proofs.lemmas.Bool.{or_parts}
 use Rattle.std.specs.List.{list_any}
 use Rattle.program_order.proofs.effects.OnePending.{finish_effects-write, finish_effects-move, finish_effects-halt}
 use Rattle.program_order.proofs.effects.OnePending.{finish_effects-or_fault, touches, finish_effects-store_word}
-use Rattle.program_order.proofs.effects.OnePending.{finish_effects-get}
-use Rattle.program_order.proofs.effects.OnePending.{finish_effects-word, finish_effects-halted, finish_effects-bounds}
-use Rattle.program_order.proofs.effects.OnePending.{finish_effects-position}
+use Rattle.program_order.proofs.effects.OnePending.{finish_effects-get, finish_effects-word, finish_effects-halted}
+use Rattle.program_order.proofs.effects.OnePending.{finish_effects-bounds, finish_effects-position}
 use Rattle.instructions.specs.RegisterLists.{is_in}
 use Rattle.instructions.specs.Shape.{Shape, sets_of}
 use Rattle.instructions.specs.declared.instr.Reg.{Reg}

@@ -10,8 +10,7 @@ use Rattle.std.proofs.lemmas.List.{get_or-set_other, set_comm, length-set}
 use Rattle.std.specs.List.{list_any}
 use Rattle.registers.proofs.RegisterLaws.{put_comm, get-put_other}
 use Rattle.instructions.specs.RegisterLists.{is_in}
-use Rattle.instructions.specs.Shape.{Shape, has_reference, has_store}
-use Rattle.instructions.specs.Shape.{is_branch_shape, loads_of, sets_of}
+use Rattle.instructions.specs.Shape.{Shape, has_reference, has_store, is_branch_shape, loads_of, sets_of}
 use Rattle.instructions.specs.Operands.{reg_eq}
 use Rattle.instructions.specs.declared.instr.Reg.{Reg}
 use Rattle.instructions.specs.declared.instr.Reg.TheVariants.{X}
@@ -26,10 +25,8 @@ use Rattle.registers.specs.Registers.{get}
 use Rattle.relocation.specs.declared.area.Access.{Access}
 use Rattle.relocation.specs.declared.area.Access.TheVariants.{Load as LoadInto, Store as StoreWord}
 use Rattle.sequential.specs.State.{Bounds, absolute, access_at, bounds_of, jump_to, halt_by, or_fault, move_to}
-use Rattle.sequential.specs.State.{store_word, write}
-use Rattle.sequential.specs.State.{write_all}
-use Rattle.sequential.specs.Work.{Work, write_and_jump, jump_for, reference_for, each_set_to, work_of}
-use Rattle.sequential.specs.Work.{do_work, refer}
+use Rattle.sequential.specs.State.{store_word, write, write_all}
+use Rattle.sequential.specs.Work.{Work, write_and_jump, jump_for, reference_for, each_set_to, work_of, do_work, refer}
 use Rattle.sequential.specs.Work.{refer_at}
 use Rattle.sequential.specs.declared.position.ProgramPosition.{ProgramPosition}
 use Rattle.sequential.specs.declared.state.State.{State}

@@ -32,8 +32,7 @@ use Rattle.in_flight.specs.Lookup.{arrival_at, arrival_in, entry_at, entry_in}
 use Rattle.in_flight.specs.Tests.{accept_tests, free_tests, nothing, refusal_of, return_tests, tests_found}
 use Rattle.in_flight.specs.inner.OwnSlots.{IsPlaced, HasOwnSlots}
 use Rattle.program_order.specs.declared.event.Event.{Event}
-use Rattle.program_order.specs.declared.event.Event.TheVariants.{Accept}
-use Rattle.program_order.specs.declared.event.Event.TheVariants.{Return, BankFree}
+use Rattle.program_order.specs.declared.event.Event.TheVariants.{Accept, Return, BankFree}
 use Rattle.program_order.specs.Events.{after, after_found, allowed, tests_of}
 use Rattle.program_order.specs.Exchange.{after_exchange}
 use Rattle.program_order.specs.Issue.{after_issue}

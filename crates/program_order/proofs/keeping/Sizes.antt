@@ -1,17 +1,15 @@
 -- Memory keeps its size, and the package of a request is within it.
-use Rattle.std.specs.Prelude.{option_and_then}
+use Rattle.std.specs.Prelude.{option_and_then, is_some, unwrap_or}
 use Rattle.std.proofs.Common.{◌≡◌, ◌≤◌, ◌+◌, ℕ, Bool, true, false, List, [], ◌∷◌, Option, Some, None, cond, length}
 use Rattle.std.proofs.Common.{refl, sym, ap, ◌∙◌, subst, arith}
 use Rattle.std.proofs.lemmas.List.{length-set}
-use Rattle.std.specs.Prelude.{is_some, unwrap_or}
 use Rattle.std.proofs.lemmas.Bool.{false≢true, leb-true}
 use Rattle.exchange_package.specs.Package.{words_of}
 use Rattle.relocation.specs.Relocation.{package_fits}
 use Rattle.relocation.proofs.Overwriting.{length-overwritten}
 use Rattle.sequential.specs.declared.fetching.Fetched.{Fetched}
 use Rattle.sequential.specs.declared.state.State.{State}
-use Rattle.sequential.specs.Replay.{LogStep, do_log_step, replay}
-use Rattle.sequential.specs.Replay.{boot}
+use Rattle.sequential.specs.Replay.{LogStep, do_log_step, replay, boot}
 use Rattle.sequential.specs.State.{Bounds, bounds_of, halt_by, move_to, store_word}
 use Rattle.sequential.specs.Step.{do_fetched, do_instruction, step, step_unless}
 use Rattle.sequential.specs.Swap.{program_entered, package_of, swap}

@@ -53,10 +53,9 @@ use Rattle.in_flight.proofs.asking.Finding.{refusal_none, stage_found, entry_fou
 use Rattle.instructions.proofs.Finding.{seek_splits}
 use Rattle.instructions.proofs.Lists.{each_of_any, each_append, each_both, pairs_push}
 use Rattle.in_flight.proofs.asking.Slotting.{other_slot, slotted_without, proper_there, placed_in, loads_channel}
+use Rattle.in_flight.proofs.asking.Slotting.{slotted_after, slotted_stage, taken_by, accepted_free, entered_free}
 use Rattle.in_flight.specs.Flight.{entering, outstanding_of, relocated}
 use Rattle.in_flight.proofs.answering.Beside.{place_found}
-use Rattle.in_flight.proofs.asking.Slotting.{slotted_after, slotted_stage, taken_by, accepted_free}
-use Rattle.in_flight.proofs.asking.Slotting.{entered_free}
 use Rattle.program_order.proofs.theorem.Theorem.{not_pending}
 
 -- ---- places, channels and addresses of what is left ----

@@ -17,8 +17,7 @@ use Rattle.in_flight.proofs.asking.Finding.{refusal_none}
 use Rattle.program_order.specs.declared.event.Done.{Done}
 use Rattle.program_order.specs.declared.event.Done.TheVariants.{Word}
 use Rattle.program_order.specs.declared.event.Event.{Event}
-use Rattle.program_order.specs.declared.event.Event.TheVariants.{Issue}
-use Rattle.program_order.specs.declared.event.Event.TheVariants.{Exchange, PpRead}
+use Rattle.program_order.specs.declared.event.Event.TheVariants.{Issue, Exchange, PpRead}
 use Rattle.program_order.specs.Complete.{complete}
 use Rattle.program_order.specs.Events.{after, allowed, tests_of}
 use Rattle.program_order.specs.Exchange.{exchange_tests}

@@ -1,5 +1,5 @@
 -- Facts about the earlier instructions that follow from an event's tests and from the instructions being apart.
-use Rattle.std.proofs.Common.{arith}
+use Rattle.std.proofs.Common.{arith, ◌≡◌, ℕ, Bool, true, false, List, [], ◌∷◌, ◌++◌, Some, refl, sym, ap, ◌∙◌}
 use Rattle.scoreboard.specs.Conflicts as conflict
 use Rattle.scoreboard.specs.Reservations as board
 use Rattle.in_flight.specs.Pending.{occupancy_of, reservation_of, awaited, entered_in, has_turn, holds_back}
@@ -7,7 +7,6 @@ use Rattle.in_flight.specs.Pending.{holds_back_in, is_branch, is_entered, to_be_
 use Rattle.in_flight.proofs.asking.PendingReservations.{comes, reads_it}
 use Rattle.in_flight.proofs.asking.Phases.{before_and, may_store, may_store_in, target_of, to_come_in}
 use Rattle.scoreboard.specs.Reservations.{is_reserved}
-use Rattle.std.proofs.Common.{◌≡◌, ℕ, Bool, true, false, List, [], ◌∷◌, ◌++◌, Some, refl, sym, ap, ◌∙◌}
 use Rattle.std.specs.Prelude.{◌&&◌}
 use Rattle.std.proofs.lemmas.Bool.{or_parts}
 use Rattle.std.specs.List.{list_any}
@@ -19,8 +18,7 @@ use Rattle.program_order.proofs.effects.OnePending.{touches_in, touches}
 use Rattle.program_order.proofs.effects.Completing.{IsFree, IsNoBranch}
 use Rattle.hopper.specs.Hopper.{is_store, keep_order}
 use Rattle.instructions.specs.RegisterLists.{is_in, overlap}
-use Rattle.instructions.specs.Shape.{Shape, has_reference, has_store}
-use Rattle.instructions.specs.Shape.{loads_of, sets_of, results, shape_of}
+use Rattle.instructions.specs.Shape.{Shape, has_reference, has_store, loads_of, sets_of, results, shape_of}
 use Rattle.instructions.specs.declared.instr.Reg.{Reg}
 use Rattle.instructions.specs.declared.instr.Reg.TheVariants.{X}
 use Rattle.instructions.specs.Each.{Each, Pairs}

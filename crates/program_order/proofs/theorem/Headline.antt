@@ -1,6 +1,6 @@
 -- The headline: the log records the issues and exchanges, and the fault flag is set by the log's first faulty
 -- instruction.
-use Rattle.std.specs.Prelude.{option_and_then}
+use Rattle.std.specs.Prelude.{option_and_then, not, Result, Ok, Err}
 use Rattle.sequential.specs.Position.{after_jump}
 use Rattle.std.proofs.Common.{◌≡◌, ℕ, Bool, true, false, List, [], ◌∷◌, ◌++◌, Option, Some, None, cond, refl, sym}
 use Rattle.std.proofs.Common.{ap, ◌∙◌, subst₂, length, append_assoc, append-nil, get_or, ltb, arith}
@@ -12,8 +12,7 @@ use Rattle.sequential.proofs.Runs.{replay_on}
 use Rattle.program_order.proofs.theorem.Issuing.{replay_more}
 use Rattle.in_flight.specs.declared.pending.Pending.{Pending}
 use Rattle.program_order.proofs.effects.Effects.{write_all_rest, do_option, do_parts, do_work-is}
-use Rattle.program_order.proofs.theorem.Theorem.{run_kept, boot_right, drained_completed, completed_read}
-use Rattle.program_order.proofs.theorem.Theorem.{made_allowed}
+use Rattle.program_order.proofs.theorem.Theorem.{run_kept, boot_right, drained_completed, completed_read, made_allowed}
 use Rattle.instructions.specs.declared.refusal.Refusal.{Refusal}
 use Rattle.in_flight.specs.Tests.{refusal_of}
 use Rattle.program_order.specs.Headline.{GainsAccesses, IsFaithful, IsFaultedRun, ends_exchanged, exchange_step}
@@ -25,7 +24,6 @@ use Rattle.program_order.specs.declared.event.Done.{Done}
 use Rattle.program_order.specs.declared.event.Done.TheVariants.{Word}
 use Rattle.program_order.specs.Run.{done_by, settled, IsAnswer, IsAnswered, settled_all}
 use Rattle.sequential.specs.Swap.{program_entered, swap}
-use Rattle.std.specs.Prelude.{not, Result, Ok, Err}
 use Rattle.instructions.specs.Finding.{Found}
 use Rattle.program_order.specs.Processor.{Processor, boot_processor, completed, replayed}
 use Rattle.program_order.specs.Events.{after, after_found, allowed, tests_of}
@@ -35,8 +33,7 @@ use Rattle.program_order.specs.Peripheral.{after_pp_read, after_pp_write}
 use Rattle.program_order.specs.Units.{after_finish, after_read, after_store, after_work}
 use Rattle.program_order.specs.Issue.{after_issue, issue_tests}
 use Rattle.program_order.specs.declared.event.Event.{Event}
-use Rattle.program_order.specs.declared.event.Event.TheVariants.{Issue}
-use Rattle.program_order.specs.declared.event.Event.TheVariants.{PpRead}
+use Rattle.program_order.specs.declared.event.Event.TheVariants.{Issue, PpRead}
 use Rattle.hopper.specs.declared.reference.Reference.{Reference}
 use Rattle.in_flight.specs.declared.pending.Outstanding.{Outstanding}
 use Rattle.in_flight.specs.declared.pending.Stage.{Stage}

@@ -1,11 +1,9 @@
 -- An issue is a step of the completed state.
-use Rattle.std.specs.Prelude.{option_and_then}
+use Rattle.std.specs.Prelude.{option_and_then, ◌&&◌, is_none}
 use Rattle.scoreboard.specs.Reservations as board
-use Rattle.in_flight.specs.Pending.{delays_fetch, awaited, entered_in}
-use Rattle.in_flight.specs.Pending.{is_branch, is_entered, to_come}
+use Rattle.in_flight.specs.Pending.{delays_fetch, awaited, entered_in, is_branch, is_entered, to_come}
 use Rattle.in_flight.proofs.asking.PendingReservations.{comes}
 use Rattle.std.proofs.Common.{◌≡◌, ℕ, false, List, [], ◌∷◌, ◌++◌, Option, Some, None, refl, ap, ◌∙◌, arith}
-use Rattle.std.specs.Prelude.{◌&&◌, is_none}
 use Rattle.std.specs.List.{list_any}
 use Rattle.instructions.proofs.Lists.{each_of_any, any_of_each, each_both, pairs_push}
 use Rattle.program_order.proofs.Opened.{results_to_come}

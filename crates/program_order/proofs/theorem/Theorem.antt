@@ -1,7 +1,6 @@
 -- Each event keeps the pending instructions apart, and keeps the completed state the replay of the log.
 use Rattle.std.proofs.Common.{Bool, ◌≡◌, ℕ, false, List, [], ◌∷◌, ◌++◌, Option, Some, None, cond, refl, sym, ap, ◌∙◌}
-use Rattle.std.proofs.Common.{subst, length}
-use Rattle.std.proofs.Common.{true, not, ltb, get_or, arith}
+use Rattle.std.proofs.Common.{subst, length, true, not, ltb, get_or, arith}
 use Rattle.std.specs.Prelude.{is_some, Result, Ok, Err}
 use Rattle.std.proofs.lemmas.List.{length-set}
 use Rattle.std.specs.List.{list_any}

@@ -38,8 +38,7 @@ use Rattle.instructions.specs.declared.shape.MemoryUse.{MemoryUse}
 use Rattle.instructions.specs.Each.{Each}
 use Rattle.instructions.specs.Finding.{seek}
 use Rattle.instructions.specs.Order.{sort_by, somes, IsInSlots}
-use Rattle.instructions.specs.Shape.{Shape, shape_of, is_branch_shape, memory_of, has_reference}
-use Rattle.instructions.specs.Shape.{has_store}
+use Rattle.instructions.specs.Shape.{Shape, shape_of, is_branch_shape, memory_of, has_reference, has_store}
 use Rattle.instructions.specs.Operands.{uses}
 use Rattle.instructions.proofs.Lists.{each_map, each_both, or_false, any_same}
 use Rattle.instructions.proofs.MemoryUses.{reference_used}

@@ -26,12 +26,10 @@ use Rattle.scoreboard.specs.declared.writer.Writer.TheVariants.{OfUnit, OfChanne
 use Rattle.scoreboard.specs.declared.writers.Writers.{Writers}
 use Rattle.scoreboard.specs.Answers.{Standing, new_issued, reserve_answer, reserved}
 use Rattle.instructions.specs.Each.{Each, Pairs}
-use Rattle.scoreboard.specs.inner.Fields.{is_taken, free_for}
+use Rattle.scoreboard.specs.inner.Fields.{is_taken, free_for, first_produced}
 use Rattle.scoreboard.specs.Issued.{reservation_of, number_of, channel_of, written_by_channel, written_in, written_by}
-use Rattle.scoreboard.specs.Issued.{or_else}
-use Rattle.scoreboard.specs.Issued.{first_some, if_earlier, writer_of, writer_before}
+use Rattle.scoreboard.specs.Issued.{or_else, first_some, if_earlier, writer_of, writer_before}
 use Rattle.instructions.specs.Order.{sort_by, somes, IsInSlots}
-use Rattle.scoreboard.specs.inner.Fields.{first_produced}
 use Rattle.scoreboard.specs.inner.View.{standing_of, in_slots, slot_in, slot_of, IsOther, IsOfKind, AreProducers}
 use Rattle.scoreboard.specs.inner.View.{IsRight}
 use Rattle.scoreboard.specs.Writers.{IsRegister, writer_at, set_writer, set_each}

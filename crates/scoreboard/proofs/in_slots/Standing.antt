@@ -25,21 +25,18 @@ use Rattle.scoreboard.specs.declared.writer.Writer.{Writer}
 use Rattle.scoreboard.specs.declared.writers.Writers.{Writers}
 use Rattle.scoreboard.specs.Answers.{held_in, returning_by, unless, read_answer, store_answer, return_answer}
 use Rattle.instructions.specs.Each.{Each, Pairs}
-use Rattle.scoreboard.specs.inner.Fields.{slot_reads}
+use Rattle.scoreboard.specs.inner.Fields.{slot_reads, first_produced}
 use Rattle.scoreboard.specs.Issued.{reservation_of, number_of, writer_before}
 use Rattle.instructions.specs.Order.{sort_by, somes, IsInSlots}
-use Rattle.scoreboard.specs.inner.Fields.{first_produced}
 use Rattle.scoreboard.specs.inner.View.{in_slots, IsOther, slot_in, slot_of, AreProducers, IsRight}
 use Rattle.instructions.proofs.Lists.{each_map, or_false, any_same}
 use Rattle.instructions.proofs.Sorted.{any_sort, any_earlier, any_somes, IsIncreasing, sort_increasing, sort_each}
 use Rattle.instructions.proofs.Slots.{taken_with, in_slots_others, in_slots_nobody, in_slots_here, before_slot}
-use Rattle.instructions.proofs.Slots.{after_slot}
-use Rattle.instructions.proofs.Slots.{each_before, found_there, found_nobody}
+use Rattle.instructions.proofs.Slots.{after_slot, each_before, found_there, found_nobody}
 use Rattle.instructions.proofs.Finding.{replaced_around, replaced_nobody}
 use Rattle.scoreboard.proofs.in_slots.Writing.{some_any, earlier_some}
 use Rattle.scoreboard.proofs.in_slots.InSlots.{get_back, own_keys, stands_holds, stands_not, stands_held}
-use Rattle.scoreboard.proofs.in_slots.InSlots.{stands_not_held}
-use Rattle.scoreboard.proofs.in_slots.InSlots.{stands_returns, stands_not_returning, unit_below}
+use Rattle.scoreboard.proofs.in_slots.InSlots.{stands_not_held, stands_returns, stands_not_returning, unit_below}
 
 -- ---- the one in a slot, in order ----
 

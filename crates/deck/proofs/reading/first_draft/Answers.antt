@@ -7,8 +7,14 @@ use Rattle.deck.proofs.reading.first_draft.Goals as goal
 
 pub returns-in_err-next_line-clause-refused : goal.returns-in_err-next_line-clause-refused
 returns-in_err-next_line-clause-refused g c =
-    grind (arith, common_steps, line_refused, read_nothing, c.from_residual.ensures.1,
-    c.in_err-next_line.ensures.err)
+    grind (
+      arith,
+      common_steps,
+      line_refused,
+      read_nothing,
+      c.from_residual.ensures.1,
+      c.in_err-next_line.ensures.err,
+    )
 
 pub returns-in_err-next_line-clause-unread : goal.returns-in_err-next_line-clause-unread
 returns-in_err-next_line-clause-unread g c =

@@ -31,5 +31,11 @@ loop-byte-preserved c =
 
 pub returns-clause-below : goal.returns-clause-below
 returns-clause-below c =
-    grind (arith, common_steps, value_below, c.requires.low, c.loop-byte.invariant.digits,
-    c.loop-byte.invariant.value)
+    grind (
+      arith,
+      common_steps,
+      value_below,
+      c.requires.low,
+      c.loop-byte.invariant.digits,
+      c.loop-byte.invariant.value,
+    )

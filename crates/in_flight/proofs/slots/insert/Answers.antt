@@ -1,5 +1,4 @@
-use Rattle.std.proofs.Common.{arith}
-use Rattle.std.proofs.Common.{◌∙◌}
+use Rattle.std.proofs.Common.{arith, ◌∙◌}
 use Rattle.in_flight.proofs.in_slots.Listing.{inserted_at, inserted_last}
 use Rattle.in_flight.proofs.slots.insert.Goals as goal
 

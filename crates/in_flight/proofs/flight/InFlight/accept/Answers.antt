@@ -1,6 +1,5 @@
-use Rattle.std.proofs.Common.{arith}
+use Rattle.std.proofs.Common.{arith, ◌≡◌, sym, ap, ◌∙◌, subst, length, Some}
 use Rattle.std.proofs.lemmas.Grind.{common_steps}
-use Rattle.std.proofs.Common.{◌≡◌, sym, ap, ◌∙◌, subst, length, Some}
 use Rattle.std.proofs.lemmas.Result.{MatchResult-at_ok}
 use Rattle.instructions.specs.Each.{Pairs}
 use Rattle.instructions.specs.Finding.{Found, seek}

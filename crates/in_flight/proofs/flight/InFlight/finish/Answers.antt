@@ -1,5 +1,4 @@
-use Rattle.std.proofs.Common.{arith}
-use Rattle.std.proofs.Common.{refl}
+use Rattle.std.proofs.Common.{arith, refl}
 use Rattle.in_flight.specs.Lookup.{stage_at}
 use Rattle.instructions.specs.Finding.{seek}
 use Rattle.in_flight.proofs.answering.Beside.{finish_tied}

@@ -1,6 +1,4 @@
-use Rattle.std.proofs.Common.{arith}
-use Rattle.std.proofs.Common.{rules}
-use Rattle.std.proofs.Common.{◌≡◌, true, false, sym, ap, ◌∙◌, subst, Some}
+use Rattle.std.proofs.Common.{arith, rules, ◌≡◌, true, false, sym, ap, ◌∙◌, subst, Some}
 use Rattle.std.specs.Prelude.{IfSome, is_none}
 use Rattle.instructions.specs.Each.{Pairs}
 use Rattle.instructions.specs.Finding.{Found, seek, replaced}

@@ -1,5 +1,4 @@
-use Rattle.std.proofs.Common.{arith}
-use Rattle.std.proofs.Common.{sym, ap, ◌∙◌}
+use Rattle.std.proofs.Common.{arith, sym, ap, ◌∙◌}
 use Rattle.in_flight.specs.Tests.{refusal_in}
 use Rattle.in_flight.proofs.answering.Referring.{accept_answered}
 use Rattle.in_flight.proofs.flight.InFlight.may_accept.Goals as goal

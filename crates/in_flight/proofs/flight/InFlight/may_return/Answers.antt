@@ -1,5 +1,4 @@
-use Rattle.std.proofs.Common.{rules}
-use Rattle.std.proofs.Common.{arith}
+use Rattle.std.proofs.Common.{rules, arith}
 use Rattle.std.proofs.lemmas.Result.{err_from_is_err_and}
 use Rattle.in_flight.proofs.answering.Beside.{nothing_there, return_answered}
 use Rattle.in_flight.proofs.flight.InFlight.may_return.Goals as goal

@@ -1,5 +1,4 @@
-use Rattle.std.proofs.Common.{rules}
-use Rattle.std.proofs.Common.{sym, ap, ◌∙◌, subst, arith}
+use Rattle.std.proofs.Common.{rules, sym, ap, ◌∙◌, subst, arith}
 use Rattle.instructions.specs.Operands.{uses}
 use Rattle.in_flight.specs.Flight.{Flight, flight_of, reserved_in}
 use Rattle.in_flight.specs.inner.Board.{IsTied}

@@ -1,5 +1,4 @@
-use Rattle.std.proofs.Common.{rules}
-use Rattle.std.proofs.Common.{arith}
+use Rattle.std.proofs.Common.{rules, arith}
 use Rattle.in_flight.specs.Lookup.{kept}
 use Rattle.in_flight.proofs.in_slots.Moving.{place_read, place_out, read_unchanged, moved_right, moved_view}
 use Rattle.in_flight.proofs.slots.Slots.accept.Goals as goal

@@ -1,5 +1,4 @@
-use Rattle.std.proofs.Common.{arith}
-use Rattle.std.proofs.Common.{ap, sym, ◌∙◌}
+use Rattle.std.proofs.Common.{arith, ap, sym, ◌∙◌}
 use Rattle.in_flight.specs.inner.Slots.{has_none}
 use Rattle.in_flight.proofs.in_slots.Moving.{none_pending}
 use Rattle.in_flight.proofs.slots.Slots.is_empty.Goals as goal

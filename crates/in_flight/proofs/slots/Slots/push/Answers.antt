@@ -1,6 +1,5 @@
-use Rattle.std.proofs.Common.{arith}
+use Rattle.std.proofs.Common.{arith, ◌<◌, ap, sym, ◌∙◌, subst, [], ◌∷◌, ◌++◌}
 use Rattle.scoreboard.proofs.in_slots.Small.{index_of, index_is}
-use Rattle.std.proofs.Common.{◌<◌, ap, sym, ◌∙◌, subst, [], ◌∷◌, ◌++◌}
 use Rattle.in_flight.specs.declared.pending.Stage.TheVariants.{Unread}
 use Rattle.instructions.specs.Each.{Each}
 use Rattle.in_flight.proofs.in_slots.Moving.{slot_free, new_right, new_view}

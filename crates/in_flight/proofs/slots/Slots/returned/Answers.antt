@@ -1,5 +1,4 @@
-use Rattle.std.proofs.Common.{rules}
-use Rattle.std.proofs.Common.{None, []}
+use Rattle.std.proofs.Common.{rules, None, []}
 use Rattle.in_flight.specs.Lookup.{kept}
 use Rattle.in_flight.proofs.in_slots.Moving.{channel_read, channel_out, read_unchanged, moved_right, moved_view, no_rest}
 use Rattle.in_flight.proofs.slots.Slots.returned.Goals as goal

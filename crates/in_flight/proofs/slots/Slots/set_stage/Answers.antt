@@ -1,7 +1,6 @@
-use Rattle.std.proofs.Common.{arith}
+use Rattle.std.proofs.Common.{arith, ap, sym, ◌∙◌, subst, [], ◌∷◌}
 use Rattle.std.proofs.lemmas.Grind.{common_steps}
 use Rattle.scoreboard.proofs.in_slots.Small.{index_of, index_is}
-use Rattle.std.proofs.Common.{ap, sym, ◌∙◌, subst, [], ◌∷◌}
 use Rattle.std.proofs.lemmas.List.{set-get_or}
 use Rattle.in_flight.specs.declared.pending.Phase.TheVariants.{Before}
 use Rattle.in_flight.specs.declared.slots.Slots.TheInside.{Inside}

@@ -1,5 +1,5 @@
 -- Second order: the producers recorded for the unit, compared with the board's list.
-use Rattle.scoreboard.proofs.in_slots.Small.{index_of, index_is, index_below}
+use Rattle.scoreboard.proofs.in_slots.Small.{index_of, index_is, index_below, none_produced}
 use Rattle.std.proofs.Common.{◌≡◌, rules, tests, ap, refl, sym, ◌∙◌, Some, None, get_or, arith}
 use Rattle.std.specs.Prelude.{is_some}
 use Rattle.std.specs.List.{list_any}
@@ -10,7 +10,6 @@ use Rattle.instructions.specs.Operands.{sources_of}
 use Rattle.scoreboard.specs.Answers.{Standing, read_answer, held_in}
 use Rattle.instructions.proofs.Slots.{slot_any}
 use Rattle.scoreboard.proofs.in_slots.Standing.{nobody_answers, read_answered, from_found, no_slot, list_read}
-use Rattle.scoreboard.proofs.in_slots.Small.{none_produced}
 use Rattle.scoreboard.proofs.board.Board.may_read.Goals as goal
 
 pub returns-in_default : goal.returns-in_default

@@ -7,8 +7,7 @@ use Rattle.scoreboard.specs.Conflicts.{unit_for}
 use Rattle.scoreboard.specs.Issued.{reservation_of}
 use Rattle.scoreboard.specs.Answers.{Standing, reserve_answer}
 use Rattle.scoreboard.specs.inner.View.{standing_of}
-use Rattle.scoreboard.proofs.changing.Reserving.{first_found, unit_found}
-use Rattle.scoreboard.proofs.changing.Reserving.{reserved_answer, taken_answer, busy_answer}
+use Rattle.scoreboard.proofs.changing.Reserving.{first_found, unit_found, reserved_answer, taken_answer, busy_answer}
 use Rattle.scoreboard.proofs.board.Board.may_reserve.Goals as goal
 
 pub returns-in_default : goal.returns-in_default

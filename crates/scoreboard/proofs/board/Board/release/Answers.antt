@@ -18,8 +18,7 @@ use Rattle.scoreboard.specs.Writers.{IsRegister, set_each}
 use Rattle.scoreboard.proofs.changing.Right.{channels_with, AreForgotten, released_right, released_others, released_last}
 use Rattle.scoreboard.proofs.changing.Changing.{nobody_marked, released_view}
 use Rattle.scoreboard.proofs.board.Board.release.Goals.{in-Increment+in-Some-Loads, in_default}
-use Rattle.scoreboard.proofs.board.Board.release.Goals.{in_default-via-in-Stop-1}
-use Rattle.scoreboard.proofs.board.Board.release.Goals.{in_default-via-in-Increment+in-None-1}
+use Rattle.scoreboard.proofs.board.Board.release.Goals.{in_default-via-in-Stop-1, in_default-via-in-Increment+in-None-1}
 use Rattle.scoreboard.proofs.board.Board.release.Goals.{in_default-via-in-Increment+in-Some+in-Stores-1}
 use Rattle.scoreboard.proofs.board.Board.release.Goals as goal
 

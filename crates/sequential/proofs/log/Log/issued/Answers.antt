@@ -2,8 +2,7 @@ use Rattle.std.proofs.Common.{◌+◌, ◌-◌, ◌<◌, subst, sym, arith}
 use Rattle.std.specs.Vec.{vec_len, vec_capacity}
 use Rattle.std.specs.Prelude.{◌^◌}
 use Rattle.sequential.specs.Log.{Logged, steps_of, last_run}
-use Rattle.sequential.proofs.Entries.{counted_more, shortest_after_issues}
-use Rattle.sequential.proofs.Entries.{room_for_count}
+use Rattle.sequential.proofs.Entries.{counted_more, shortest_after_issues, room_for_count}
 use Rattle.sequential.proofs.log.Log.issued.Goals as goal
 
 pub invariant_of-self : goal.invariant_of-self
