@@ -9,7 +9,6 @@ use Rattle.in_flight.proofs.flight.InFlight.reserve.Goals as goal
 
 pub invariant_of-self-in_default : goal.invariant_of-self-in_default
 invariant_of-self-in_default c =
-    let p = error_there c.try_reserve-reserved.result c.in_default.not-Ok in
     subst (IsTied c.self.inside.slots c.self.inside.hopper)
     (sym (search (rules, unreserved))) c.self.invariant
 
