@@ -7,8 +7,7 @@ pub returns-in_default-clause-answer : goal.returns-in_default-clause-answer
 returns-in_default-clause-answer c = grind (arith, nothing_there)
 
 pub returns-in_err-may_return-clause-answer : goal.returns-in_err-may_return-clause-answer
-returns-in_err-may_return-clause-answer c =
-    search (rules, return_answered)
+returns-in_err-may_return-clause-answer c = search (rules, return_answered)
 
 pub returns-clause-answer : goal.returns-clause-answer
 returns-clause-answer c = grind (arith, return_answered)
