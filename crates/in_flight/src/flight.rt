@@ -77,6 +77,7 @@ impl InFlight {
     }
 
     /// Whether nothing is pending.
+    #[tactic(auto, using(crate::proofs::answering::Beside::nothing_pending))]
     pub fn is_empty(&self) -> bool
         ensures { result ≡ not (is_pending self.now.pending) }
     {
@@ -84,6 +85,7 @@ impl InFlight {
     }
 
     /// Whether an instruction holds Branch.
+    #[tactic(auto, using(crate::proofs::answering::Beside::branch_held))]
     pub fn is_branch_held(&self) -> bool
         ensures { result ≡ list_any is_branch self.now.pending }
     {
@@ -394,6 +396,7 @@ impl InFlight {
     ///
     /// # Errors
     /// `Nothing` if the bank isn't busy.
+    #[tactic(auto, using(crate::proofs::answering::Beside::free_answered))]
     pub fn bank_free(&mut self, bank: u8) -> Result<(), Refusal>
         ensures answer { refusal_of (free_tests self.old.busy bank) ≡ refusal_in result }
         ensures after { MatchResult result

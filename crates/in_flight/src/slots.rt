@@ -187,6 +187,7 @@ impl Slots {
     }
 
     /// The pending instruction with the lowest number.
+    #[tactic(auto, using(crate::proofs::in_slots::Oldest::first_pending))]
     pub fn oldest(&self) -> Option<Pending>
         ensures { result ≡ first_of self.now }
     {
@@ -195,6 +196,7 @@ impl Slots {
     }
 
     /// The pending instructions, in issue order.
+    #[tactic(auto, using(crate::proofs::in_slots::Listing::all_slots))]
     pub fn pending(&self) -> ArrayVec<Pending, SLOTS>
         ensures { result.items ≡ self.now }
     {

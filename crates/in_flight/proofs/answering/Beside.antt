@@ -83,7 +83,7 @@ error_there (Err y) h = (y, refl)
 pub some_from : {K : Type 0} (o : Option (Found Pending K)) (s : Option (Located K)) (b : Bool) → s ≡ located o
     → is_some s ≡ not b → b ≡ false → (f : Found Pending K) × (o ≡ Some f)
 unfolding located
-some_from None s b k e h = let q : false ≡ true = sym (ap is_some k) ∙ e ∙ ap not h in cc
+some_from None s b k e h = cc
 some_from (Some f) s b k e h = (f, refl)
 
 pub nobody_from : {K : Type 0} (o : Option (Found Pending K)) (s : Option (Located K)) (b : Bool) → s ≡ located o
@@ -143,11 +143,7 @@ delayed_by : (t : Reservation → Bool) (f : Entered → Bool) (g : Phase → Bo
     ≡ list_any (λ m. t (reservation_of m) || g m.phase) ms
 unfolding reservation_of_issued
 delayed_by t f g none h ms queue standing tied =
-    ap (λ xs. list_any (λ (x : Issued). t x.reservation) xs || list_any f queue.entered) tied.boarded
-    ∙ ap (λ b. b || list_any f queue.entered) (board_any t none ms)
-    ∙ ap (λ es. list_any (λ m. t (reservation_of m)) ms || list_any f es) tied.entered
-    ∙ ap (λ b. list_any (λ m. t (reservation_of m)) ms || b) (waiting_any f g h ms)
-    ∙ sym (any_either (λ m. t (reservation_of m)) (λ m. g m.phase) ms)
+    cc (board_any t none ms, waiting_any f g h ms, any_either (λ m. t (reservation_of m)) (λ m. g m.phase) ms)
 
 pub fetch_delayed : (a : ℕ) (ms : List Pending) (queue : Queue) (standing : Standing) → IsTied ms queue standing
     → (list_any (λ x. has_store_turn x.reservation) standing.issued || list_any (stores_here a) queue.entered)
@@ -268,8 +264,7 @@ pub store_unroomed : (u : FunctionalUnit) (ms : List Pending) (xs : List Issued)
     → Ok x ≡ store_answer (seek (held_in u) xs) → (enters && is_none (place_for ms)) ≡ true
     → refusal_of (store_conflicts ms f.earlier f.item.instr enters) ≡ Some HopperFull
 store_unroomed u ms xs f enters x e h k full =
-    test_passes _ _ x _ (sym (k ∙ ap (λ l. store_answer (seek (held_in u) l)) e ∙ store_of_all u ms f h))
-    ∙ next_fails (enters && is_none (place_for ms)) HopperFull _ full
+    grind (arith, test_passes, next_fails, store_of_all u ms f h)
 
 pub store_turned : (u : FunctionalUnit) (ms : List Pending) (xs : List Issued) (f : Found Pending Stage)
     (enters : Bool) (x : Unit {0}) (r : Result (Unit {0}) Refusal) → xs ≡ on_board ms → seek (stage_at u) ms ≡ Some f
@@ -278,10 +273,7 @@ pub store_turned : (u : FunctionalUnit) (ms : List Pending) (xs : List Issued) (
     → refusal_of (store_conflicts ms f.earlier f.item.instr enters) ≡ refusal_in r
 unfolding has_turn
 store_turned u ms xs f enters x r e h k room t =
-    test_passes _ _ x _ (sym (k ∙ ap (λ l. store_answer (seek (held_in u) l)) e ∙ store_of_all u ms f h))
-    ∙ next_passes (enters && is_none (place_for ms)) HopperFull _ room
-    ∙ test_is _ _
-    ∙ ap refusal_in (sym (t ∙ ap (λ l. turn_answer (seek (held_in u) l)) e ∙ turn_of_all u ms f h))
+    grind (arith, test_passes, next_passes, test_is, store_of_all u ms f h, turn_of_all u ms f h)
 
 -- ---- a unit that reads ----
 
@@ -299,10 +291,7 @@ pub read_answered : (u : FunctionalUnit) (ms : List Pending) (xs : List Issued) 
 unfolding tests_found read_tests
 read_answered u ms xs s r e h w k =
     let p = there (seek (stage_at u) ms) s h in
-    ap read_refused p.1
-    ∙ ap (λ t. refusal_of (read_tests t p.0.earlier p.0.item.instr)) (p.3 ∙ w)
-    ∙ test_is _ _
-    ∙ ap refusal_in (sym (k ∙ ap (λ l. read_answer (seek (held_in u) l)) e ∙ read_of_all u ms p.0 p.1))
+    let a = read_of_all u ms p.0 p.1 in grind (arith, test_is)
 
 pub read_tied : (u : FunctionalUnit) (ms ns : List Pending) (queue : Queue) (b c : Standing) (s : Located Stage)
     (os : Operands) → located (seek (stage_at u) ms) ≡ Some s → IsTied ms queue b

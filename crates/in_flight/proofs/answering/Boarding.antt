@@ -263,9 +263,7 @@ unfolding found_on_board
 return_found n ms f h k =
     let p = seek_splits (arrival_at n) ms f h in
     let q = arrival_occupancy n f.item f.answer p.1 in
-    ap (seek (returning_by n)) (grind (arith, board_around))
-    ∙ seek_around (returning_by n) (on_board f.earlier) (issued_of f.item) f.item.instr (on_board f.later)
-    (silent_returns n f.earlier k) (returning_here n f.item f.answer p.1)
+    grind (arith, board_around, seek_around, silent_returns, returning_here)
 
 pub return_of_all : (n : ℕ) (ms : List Pending) (f : Found Pending Arrival) → seek (arrival_at n) ms ≡ Some f
     → awaited reservation_of f.earlier (X n) ≡ false
@@ -301,10 +299,7 @@ read_follows u ms f os h = grind (arith, board_put, read_put, unit_changed)
 same_put : {K : Type 0} (g : Pending → Option K) (ms : List Pending) (f : Found Pending K) (xs : List Pending)
     → seek g ms ≡ Some f → on_board xs ≡ on_board (f.item ∷ []) → on_board (put_back f xs) ≡ on_board ms
 same_put g ms f xs h e =
-    board_put f xs
-    ∙ ap (λ l. on_board f.earlier ++ (l ++ on_board f.later)) e
-    ∙ sym (ap on_board (seek_splits g ms f h).0 ∙ board-append f.earlier (f.item ∷ f.later)
-    ∙ ap (λ l. on_board f.earlier ++ l) (board-append (f.item ∷ []) f.later))
+    let p = seek_splits g ms f h in grind (arith, board_put, board-append f.earlier (f.item ∷ f.later), board-append (f.item ∷ []) f.later)
 
 seen_alike : (m n : Pending) → issued_of m ≡ issued_of n → on_board (m ∷ []) ≡ on_board (n ∷ [])
 unfolding on_board issued_of
@@ -354,9 +349,7 @@ pub return_follows : (n : ℕ) (ms : List Pending) (f : Found Pending Arrival) �
     → awaited reservation_of f.earlier (X n) ≡ false
     → on_board (put_back f []) ≡ replaced (seek (returning_by n) (on_board ms)) (on_board ms) gone
 unfolding gone on_board replaced put_back found_on_board
-return_follows n ms f h k =
-    board_put f []
-    ∙ sym (ap (λ o. replaced o (on_board ms) gone) (return_found n ms f h k))
+return_follows n ms f h k = cc (board_put f [], return_found n ms f h k)
 
 pub issue_follows : (ms : List Pending) (i : Instr) (at number : ℕ) (u : FunctionalUnit)
     → on_board (ms ++ record { instr = i; at = at; number = number; unit = u; phase = Before Unread } ∷ [])

@@ -94,12 +94,10 @@ pub queue_found : (p : ℕ) (ms : List Pending) (f : Found Pending Reference) �
 unfolding waiting_in
 queue_found p ms f h =
     let q = seek_splits (entry_at p) ms f h in
-    ap (seek_in (reference_at p))
-    (waiting_around (entry_at p) ms f h
-    ∙ ap (λ x. waiting f.earlier ++ (waiting_in x ++ waiting f.later)) (entry_phase p f.item f.answer q.1))
-    ∙ seek_around (reference_at p) (waiting f.earlier) (record { place = p; reference = f.answer })
-    f.answer (waiting f.later) (none_waiting p f.earlier q.2)
-    (stands_there p f.answer)
+    let e = entry_phase p f.item f.answer q.1 in
+    let s = seek_around (reference_at p) (waiting f.earlier) (record { place = p; reference = f.answer })
+    f.answer (waiting f.later) (none_waiting p f.earlier q.2) (stands_there p f.answer) in
+    grind (arith, waiting_around (entry_at p) ms f h)
 
 pub queue_nobody : (p : ℕ) (ms : List Pending) → seek (entry_at p) ms ≡ None
     → seek_in (reference_at p) (waiting ms) ≡ None
@@ -145,15 +143,11 @@ pub accept_answered : (p : ℕ) (ms : List Pending) (queue : Queue) (r : Result 
     → refusal_of (tests_found (seek (entry_at p) ms) (λ f. accept_tests queue.busy f.earlier f.answer)) ≡ refusal_in r
 unfolding tests_found
 accept_answered p ms queue r e k = by_found (seek (entry_at p) ms) refl
-    ∙ ap refusal_in (sym (k ∙ ap (λ es. accept_answer queue.busy (seek_in (reference_at p) es)) e))
   where
     by_found : (o : Option (Found Pending Reference)) → seek (entry_at p) ms ≡ o
-        → refusal_of (tests_found o (λ f. accept_tests queue.busy f.earlier f.answer))
-        ≡ refusal_in (accept_answer queue.busy (seek_in (reference_at p) (waiting ms)))
-    by_found None h =
-        none_answer queue.busy ∙ sym (ap (λ x. refusal_in (accept_answer queue.busy x)) (queue_nobody p ms h))
-    by_found (Some f) h =
-        some_answer queue.busy p f ∙ sym (ap (λ x. refusal_in (accept_answer queue.busy x)) (queue_found p ms f h))
+        → refusal_of (tests_found o (λ f. accept_tests queue.busy f.earlier f.answer)) ≡ refusal_in r
+    by_found None h = cc (none_answer queue.busy, queue_nobody p ms h)
+    by_found (Some f) h = cc (some_answer queue.busy p f, queue_found p ms f h)
 
 -- the accepted reference waited in the place
 pub accept_found : (p : ℕ) (ms : List Pending) (queue : Queue) (a : Result Reference Refusal) (r : Reference)
@@ -161,18 +155,10 @@ pub accept_found : (p : ℕ) (ms : List Pending) (queue : Queue) (a : Result Ref
     → (f : Found Pending Reference) × (seek (entry_at p) ms ≡ Some f) × (f.answer ≡ r)
 accept_found p ms queue a r e k h = by_found (seek (entry_at p) ms) refl
   where
-    here : accept_answer queue.busy (seek_in (reference_at p) (waiting ms)) ≡ Ok r
-    here = sym (k ∙ ap (λ es. accept_answer queue.busy (seek_in (reference_at p) es)) e) ∙ h
-
     by_found : (o : Option (Found Pending Reference)) → seek (entry_at p) ms ≡ o → (f : Found Pending Reference)
         × (o ≡ Some f) × (f.answer ≡ r)
-    by_found None i =
-        absurd (nothing_taken queue.busy r (sym (ap (accept_answer queue.busy) (queue_nobody p ms i)) ∙ here))
-    by_found (Some f) i = (
-      f,
-      refl,
-      taken_is queue.busy (in_queue p f) r (sym (ap (accept_answer queue.busy) (queue_found p ms f i)) ∙ here),
-    )
+    by_found None i = let n = queue_nobody p ms i in absurd (grind (arith, nothing_taken))
+    by_found (Some f) i = let n = queue_found p ms f i in (f, refl, grind (arith, taken_is))
 
 -- the place, address and channel of the reference
 pub entry_placed : (size p : ℕ) (ms : List Pending) (f : Found Pending Reference) → HasOwnSlots size ms
@@ -332,7 +318,7 @@ unit_away m t n h k = grind arith
 
 place_away : (p : ℕ) (y : Pending) → p < 4 → in_place p y ≡ false → slot_of y ≢ 10 + p
 unfolding in_place
-place_away p y b h k = let q = entry_is p y b k in let r : true ≡ false = sym (ap is_some q.1) ∙ h in cc
+place_away p y b h k = let q = entry_is p y b k in cc
 
 room_entering : (u : FunctionalUnit) (ms : List Pending) (f : Found Pending Stage) (o : Option ℕ) (x : Access)
     → Pairs IsApart ms → seek (stage_at u) ms ≡ Some f
@@ -482,7 +468,6 @@ queue_entering u ms queue f place None (Load n) apart h refers e =
     grind (arith, around, waiting_put, waiting_one, append-nil)
 queue_entering u ms queue f place (Some a) x apart h refers e =
     let q = seek_splits (stage_at u) ms f h in
-    let m : Pending = in_phase f.item (After (HasEntered place a x)) in
     let none : waiting f.later ≡ [] =
     none_entered f.item f.later
     (turn_there f.item f.answer (stage_found u f.item f.answer q.1) (refers refl))

@@ -61,14 +61,12 @@ pub read_found : {W : Type 0} {ask : Pending → Option W} {units places channel
 unfolding located
 read_found {ask = ask} {m = m} {x = x} r k =
     let f = asked_found slot_of number_of _ _ _ _ r.asked (as_slots r.right) r.there in
-    let e : Some x ≡ Some f.0 = sym k ∙ f.1 in
-    let xe : x ≡ f.0 = cc in
     cc
 
 -- the instruction in the slot has an answer
 pub read_must : {W : Type 0} {ask : Pending → Option W} {units places channels : List (Option Pending)}
     {ms : List Pending} {i : ℕ} {m : Pending} → IsRead ask units places channels ms i (Some m) → ask m ≡ None → ⊥
-read_must r k = let f = read_answers r in let e : None ≡ Some f.0 = sym k ∙ f.1 in cc
+read_must r k = let f = read_answers r in cc
 
 -- the search finds nothing if the slot is empty
 pub read_nobody : {W : Type 0} {ask : Pending → Option W} {units places channels : List (Option Pending)}
@@ -232,12 +230,14 @@ left_slots : (units places channels : List (Option Pending)) (m : Pending) (l : 
 unfolding slots places_with channels_with
 left_slots units places channels m (Entered place a access) ms lu lp room =
     let y : Pending = in_phase m (After (Entered place a access)) in
-    set_back units (places ++ channels) place (10 + place) (Some y) (omega (arith, lu))
-    ∙ ap (λ os. units ++ os) (set-append_left places channels place (Some y) (omega (arith, lp, room.0)))
+    let e = set_back units (places ++ channels) place (10 + place) (Some y) (omega (arith, lu)) in
+    grind (arith, set-append_left)
 left_slots units places channels m (Accepted n word) ms lu lp room =
     let y : Pending = in_phase m (After (Accepted n word)) in
-    set_back units (places ++ channels) (4 + n) (14 + n) (Some y) (omega (arith, lu))
-    ∙ ap (λ os. units ++ os) (set_back places channels n (4 + n) (Some y) (omega (arith, lp)))
+    cc (
+      set_back units (places ++ channels) (4 + n) (14 + n) (Some y) (omega (arith, lu)),
+      set_back places channels n (4 + n) (Some y) (omega (arith, lp)),
+    )
 
 left_stands : (m : Pending) (l : Outstanding) (ms : List Pending) → HasRoom (Some l) ms
     → slot_of (in_phase m (After l)) ≡ later_slot l
@@ -305,7 +305,6 @@ moved_right {us = us} {qs} {ns} {units} {places} {channels} {ps} {cs} {i = i} {m
 moved_right {us = us} {qs} {ns} {units} {places} {channels} {ps} {cs} {ms} {i} {m} (Some l) r o room rest =
     let os : List (Option Pending) = slots us qs ns in
     let free : HasRoom (Some l) (in_order os) = subst (HasRoom (Some l)) (sym r.view) room in
-    let low = left_below l (in_order os) free in
     let all = all_slots us qs ns r.right in
     let there = ap (λ k. set k (later_slot l) (Some (in_phase m (After l)))) o.rest
     ∙ left_slots units places channels m l (in_order os) o.all_units o.all_places free
@@ -380,13 +379,9 @@ place_read {units} {places} {channels} {i =
 pub place_out : {units places channels : List (Option Pending)} {i : ℕ} → IsRight units places channels → i < 4
     → IsOut (slots units places channels) units (set places i None) channels (10 + i)
 unfolding slots
-place_out {units} {places} {channels} {i} right b = record {
-  rest = set_back units (places ++ channels) i (10 + i) None (omega (arith, right.all_units))
-      ∙ ap (λ os. units ++ os) (set-append_left places channels i None (omega (arith, b, right.all_places)));
-  all_units = right.all_units;
-  all_places = length-set places i None ∙ right.all_places;
-  all_channels = right.all_channels;
-}
+place_out {units} {places} {channels} {i} right b =
+    let e = set_back units (places ++ channels) i (10 + i) None (omega (arith, right.all_units)) in
+    grind (arith, set-append_left, length-set)
 
 -- ---- out of a channel ----
 
@@ -416,25 +411,17 @@ pub channel_read : {units places channels : List (Option Pending)} {ms : List Pe
     (d : Option Pending) → IsRight units places channels → in_order (slots units places channels) ≡ ms → n < 8
     → i ≡ n → get_or channels i d ≡ o → IsRead (arrival_at n) units places channels ms (14 + i) o
 unfolding slots
-channel_read {units} {places} {channels} {i = i} {n} d right view b e h = record {
-  asked = arrival_asked n i b e;
-  right = right;
-  there = get_back units (places ++ channels) (4 + i) (14 + i) None (omega (arith, right.all_units))
-      ∙ get_back places channels i (4 + i) None (omega (arith, right.all_places))
-      ∙ slot_any channels i d (omega (arith, b, e, right.all_channels)) ∙ h;
-  view = view;
-}
+channel_read {units} {places} {channels} {i = i} {n} d right view b e h =
+    let f = get_back units (places ++ channels) (4 + i) (14 + i) None (omega (arith, right.all_units)) in
+    let g = get_back places channels i (4 + i) None (omega (arith, right.all_places)) in
+    grind (arith, arrival_asked, slot_any)
 
 pub channel_out : {units places channels : List (Option Pending)} (i : ℕ) → IsRight units places channels
     → IsOut (slots units places channels) units places (set channels i None) (14 + i)
 unfolding slots
-channel_out {units} {places} {channels} i right = record {
-  rest = set_back units (places ++ channels) (4 + i) (14 + i) None (omega (arith, right.all_units))
-      ∙ ap (λ os. units ++ os) (set_back places channels i (4 + i) None (omega (arith, right.all_places)));
-  all_units = right.all_units;
-  all_places = right.all_places;
-  all_channels = length-set channels i None ∙ right.all_channels;
-}
+channel_out {units} {places} {channels} i right =
+    let e = set_back units (places ++ channels) (4 + i) (14 + i) None (omega (arith, right.all_units)) in
+    let q = set_back places channels i (4 + i) None (omega (arith, right.all_places)) in grind (arith, length-set)
 
 -- the removed instruction has nothing left to do
 pub no_rest : (places channels : List (Option Pending)) (m : Pending) → HasRest places channels m None places channels
@@ -466,9 +453,7 @@ arrival_none {units} {places} {channels} {ms} n right view h = by_test (ltb n 8)
   where
     by_test : (b : Bool) → ltb n 8 ≡ b → seek (arrival_at n) ms ≡ None
     by_test true e = read_nobody (channel_read None right view (ltb-true n 8 e) refl h)
-    by_test false e =
-        subst (λ l. seek (arrival_at n) l ≡ None) view
-        (arrival_beyond units places channels n right (ltb-false n 8 e))
+    by_test false e = grind (arith, arrival_beyond, ltb-false)
 
 pub channel_below : {units places channels : List (Option Pending)} (n : ℕ) (m : Pending)
     → IsRight units places channels → get_or channels n None ≡ Some m → n < 8
@@ -485,8 +470,7 @@ slot_free {units} {i = i} u right view e h = by_slot (get_or units i None) refl
     by_slot None k = refl
     by_slot (Some m) k =
         let r = unit_read u None right view e k in
-        let f = asked_found slot_of number_of _ _ _ _ r.asked (as_slots r.right) r.there in
-        let q : None ≡ Some _ = sym h ∙ ap (seek (stage_at u)) (sym view) ∙ f.2 in cc
+        let f = asked_found slot_of number_of _ _ _ _ r.asked (as_slots r.right) r.there in grind arith
 
 new_stands : (m : Pending) (t : Stage) → m.phase ≡ Before t → slot_of m ≡ unit_number m.unit
 unfolding slot_of slot_in

@@ -1,5 +1,4 @@
 use Rattle.std.proofs.Common.{arith, ◌≡◌, sym, ap, ◌∙◌, subst, length, Some}
-use Rattle.std.proofs.lemmas.Grind.{common_steps}
 use Rattle.std.proofs.lemmas.Result.{MatchResult-at_ok}
 use Rattle.instructions.specs.Each.{Pairs}
 use Rattle.instructions.specs.Finding.{Found, seek}
@@ -77,8 +76,7 @@ returns-after-reference-clause-answer c =
 
 pub returns-after-reference-clause-entry : goal.returns-after-reference-clause-entry
 returns-after-reference-clause-entry c =
-    let p = found (goal.at.returns-after-reference-clause-entry c).After-left-in-Ok-1 in
-    grind (arith, common_steps)
+    grind (arith, found (goal.at.returns-after-reference-clause-entry c).After-left-in-Ok-1)
 
 pub returns-after-reference-clause-after : goal.returns-after-reference-clause-after
 returns-after-reference-clause-after c =

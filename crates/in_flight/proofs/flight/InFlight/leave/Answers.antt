@@ -52,9 +52,7 @@ rest c = subst (λ (x : Flight). IfSome (located (seek (stage_at c.args.unit) x.
     (λ s. IsRestOf (shape_of s.pending.instr) c.args.rest.now)) (sym c.self.view_is) c.requires.rest
 
 pub returns-then-is_none : goal.returns-then-is_none
-returns-then-is_none c =
-    leave_nobody c.args.unit c.args.rest.now c.args.self.now
-    (grind (arith, nobody_from))
+returns-then-is_none c = cc (leave_nobody c.args.unit c.args.rest.now c.args.self.now (grind (arith, nobody_from)))
 
 pub leave-requires : goal.leave-requires
 leave-requires c =

@@ -1,5 +1,4 @@
 use Rattle.std.proofs.Common.{rules, arith}
-use Rattle.std.proofs.lemmas.Result.{err_from_is_err_and}
 use Rattle.in_flight.proofs.answering.Beside.{nothing_there, return_answered}
 use Rattle.in_flight.proofs.flight.InFlight.may_return.Goals as goal
 
@@ -7,9 +6,7 @@ pub returns-in_default-clause-answer : goal.returns-in_default-clause-answer
 returns-in_default-clause-answer c = grind (arith, nothing_there)
 
 pub returns-in_err-may_return-clause-answer : goal.returns-in_err-may_return-clause-answer
-returns-in_err-may_return-clause-answer c =
-    let p = err_from_is_err_and c.from_residual.result c.from_residual.ensures.1 in
-    search (rules, return_answered)
+returns-in_err-may_return-clause-answer c = search (rules, return_answered)
 
 pub returns-clause-answer : goal.returns-clause-answer
 returns-clause-answer c = grind (arith, return_answered)
