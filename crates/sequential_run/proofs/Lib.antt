@@ -4,7 +4,7 @@ pub mod Beginning
 pub mod Ending
 pub mod Ordered
 pub mod MidWord
-pub mod Fulfilling
+pub mod FulfilledRun
 pub mod OneResult
 pub mod Making
 pub mod First

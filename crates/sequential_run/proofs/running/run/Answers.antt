@@ -1,6 +1,6 @@
 use Rattle.std.proofs.Common.{refl, rules, arith}
 use Rattle.sequential_run.proofs.Beginning.{run_begins}
-use Rattle.sequential_run.proofs.Fulfilling.{run_fulfils}
+use Rattle.sequential_run.proofs.FulfilledRun.{run_fulfils}
 use Rattle.sequential_run.proofs.Ending.{kept_begun, led_begun, led_off, led_on, run_ended, run_on, run_over, run_replays}
 use Rattle.sequential_run.proofs.running.run.Goals as goal
 
