@@ -4,7 +4,7 @@ use Rattle.instructions.proofs.Lists.{or_false}
 use Rattle.job_deck.proofs.sessions.Unbegun.{unwritten}
 use Rattle.job_deck.proofs.Judged.{runs_of_deck}
 use Rattle.job_deck.proofs.Unread.{runs_refused}
-use Rattle.job_deck.proofs.running.run_to.Goals as goal
+use Rattle.job_deck.proofs.running.run_sequentially_to.Goals as goal
 
 pub returns-in_err-deck-clause-ran : goal.returns-in_err-deck-clause-ran
 returns-in_err-deck-clause-ran g c =
