@@ -5,7 +5,8 @@ import errno
 import os
 import signal
 import sys
-from typing import Callable, NoReturn
+from io import TextIOWrapper
+from typing import Callable, NoReturn, TextIO
 
 # As a shell tells it of a command that a signal has ended.
 INTERRUPTED, UNREAD = 128 + signal.SIGINT, 128 + signal.SIGPIPE
@@ -69,6 +70,12 @@ def flush_output() -> None:
         if isinstance(fault, BrokenPipeError):
             raise
         raise Unwritten(f"standard output: {fault.strerror}") from None
+
+
+def set_errors(stream: TextIO, errors: str, encoding: str | None = None) -> None:
+    """Sets how a standard stream encodes or decodes what its encoding hasn't, and perhaps its encoding."""
+    if isinstance(stream, TextIOWrapper):
+        stream.reconfigure(encoding=encoding, errors=errors)
 
 
 def shown(name: str, text: str) -> int:

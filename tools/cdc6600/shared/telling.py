@@ -37,7 +37,7 @@ def numbered(numbers: Iterable[int]) -> str:
     return f"{plural(numbers, 'reservation', 'reservations')} {enumerated(map(str, numbers))}"
 
 
-def filled(text: str, given: Mapping[str, str | list[str]]) -> str:
+def filled(text: str, given: Mapping[str, str | list[str] | bool]) -> str:
     """A text with what is given for its names."""
     def part(found: re.Match[str]) -> str:
         first, *otherwise = BAR.split(found[1])
@@ -46,8 +46,10 @@ def filled(text: str, given: Mapping[str, str | list[str]]) -> str:
     def name(found: re.Match[str]) -> str:
         is_test, it, one, several = found.groups()
         value = given.get(it, "")
+        if is_test or isinstance(value, bool):
+            return ""
         if one is not None:
             return plural(value, one, several)
-        return "" if is_test else enumerated(value) if isinstance(value, list) else value
+        return enumerated(value) if isinstance(value, list) else value
 
     return NAME.sub(name, PART.sub(part, text))

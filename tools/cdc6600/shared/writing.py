@@ -6,7 +6,7 @@ from pathlib import Path
 from typing import Callable
 
 
-def why_not_written(file: Path, is_own: Callable[[Path], bool]) -> str | None:
+def why_not_written(file: str | Path, is_own: Callable[[str | Path], bool]) -> str | None:
     """Why a file may not be written; none if it may. `is_own` says of a file that is there whether the tool has written
     it."""
     if os.path.lexists(file) and (os.path.islink(file) or not os.path.isfile(file) or not is_own(file)):
@@ -14,7 +14,7 @@ def why_not_written(file: Path, is_own: Callable[[Path], bool]) -> str | None:
     return None if Path(file).parent.is_dir() else os.strerror(errno.ENOENT)
 
 
-def put(file: Path, text: bytes) -> None:
+def put(file: str | Path, text: bytes) -> None:
     """Writes a file that may be written. What isn't there yet is made anew."""
     way = os.O_TRUNC if os.path.lexists(file) else os.O_CREAT | os.O_EXCL
     with open(os.open(file, os.O_WRONLY | os.O_CLOEXEC | os.O_NOFOLLOW | way, 0o666), "wb") as target:
