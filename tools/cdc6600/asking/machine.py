@@ -50,7 +50,6 @@ class Machine:
             raise NoLibrary(f"the library fails with status {status}: {told.decode().strip()}")
 
     def printed(self, came: tuple[bytes, bytes, int]) -> str:
-        """What a call printed."""
         text, told, status = came
         if status:
             self.check(told, status)

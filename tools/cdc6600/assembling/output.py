@@ -5,9 +5,6 @@ from typing import Iterator
 from .program import Program
 from .settings import Settings
 
-# The width of what stands before a line of the source, and what stands between two columns.
-BETWEEN = " "
-
 
 def deck_of(program: Program, settings: Settings) -> list[str]:
     lines, words = [f"core {settings.size}"], dict(enumerate(settings.package_words, settings.package))

@@ -164,7 +164,6 @@ class Program:
         return value_of(line.operands, line.operands_column, self.names, True)
 
     def finish(self, line: Line) -> None:
-        """Ends the source."""
         if line.label:
             raise Wrong(1, "takes no label", operation=END)
         if line.operands not in ("", START):
@@ -172,24 +171,20 @@ class Program:
         self.end = line.number
 
     def equal(self, line: Line) -> None:
-        """Defines a name that isn't a label."""
         if not line.label:
             raise Wrong(1, "no name")
         self.define(line, self.known(line))
 
     def move(self, line: Line) -> None:
-        """Goes on at another address."""
         self.address = within(self.known(line), 0, MOST_WORDS - 1, line.operands_column)
 
     def reserve(self, line: Line) -> None:
-        """Leaves words free."""
         count = within(self.known(line), 0, MOST_WORDS, line.operands_column)
         self.begins[line.number] = self.address
         self.address += count
         self.top = max(self.top, self.address)
 
     def data(self, line: Line) -> None:
-        """Places the words of DATA."""
         if not line.operands:
             raise Wrong(line.operands_column, "no values", operation=line.operation)
         for text, column in line.values:

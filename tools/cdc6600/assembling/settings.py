@@ -42,7 +42,6 @@ class Settings:
         self.program.guarded(line.number, partial(work, line.column))
 
     def value(self, text: str, column: int) -> int:
-        """The value of a text which begins at a column."""
         return value_of(text, column, self.program.names)
 
     def fields(self, line: Line, least: int, most: int, wanted: str) -> list[tuple[str, int]]:
@@ -73,7 +72,6 @@ class Settings:
             self.values[name] = fitted(value, INDEX_BITS, column)
 
     def set(self, line: Line) -> None:
-        """Reads a line that sets a register."""
         (name, at), (text, column) = self.fields(line, 2, 2, "a register")
         if not REGISTER.fullmatch(name) or name == "B0":
             raise Wrong(at, "can't be set", text=quoted(name))

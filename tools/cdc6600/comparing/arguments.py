@@ -1,6 +1,7 @@
 """What the words of a command line stand for."""
 
 import argparse
+from pathlib import Path
 
 from cdc6600.assembling.sources import Refused, as_deck
 from cdc6600.shared.reading import read_file, read_stream
@@ -37,12 +38,10 @@ def jobs(word: str) -> int:
 
 
 def seed(word: str) -> int:
-    """A number from which a deck is drawn."""
     return number(word, 18)
 
 
 def seconds(word: str) -> float:
-    """A time, in seconds."""
     try:
         found = float(word)
     except ValueError:
@@ -57,7 +56,7 @@ def slope(word: str) -> float:
     return seconds(word) / 1000
 
 
-def bytes_of(file: str) -> bytes:
+def bytes_of(file: str | Path) -> bytes:
     """What a file has.
 
     Raises BadInput where it can't be read."""

@@ -84,7 +84,6 @@ class Coverage:
 
     @property
     def json(self) -> str:
-        """The numbers as JSON."""
         rows = [{"code": row.code, "text": row.text, "decks": self.numbers[row.code],
                  "edges": {edge: self.numbers[row.code, edge] for edge in edges_of(row)}} for row in ROWS.values()]
         return json.dumps({"decks": self.decks, "instructions": rows}, indent=1)

@@ -142,5 +142,4 @@ class Emulator:
 
 
 def name_of(number: int) -> str:
-    """The name of a signal."""
     return signal.Signals(number).name if number in set(signal.Signals) else f"signal {number}"

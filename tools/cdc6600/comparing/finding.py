@@ -71,7 +71,6 @@ class Replayed:
         put(file, given.text)
 
     def dump(self, count: int) -> Dump:
-        """The dump after so many steps."""
         if count == len(self.steps):
             return self.whole
         found = self.kept.get(count)

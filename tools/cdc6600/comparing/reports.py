@@ -160,7 +160,6 @@ class Report:
 
     @property
     def lines(self) -> Iterator[str]:
-        """What is told of a difference."""
         where = f"agree before step {self.step}, and differ after it" if self.step else "differ before step 1"
         yield f"{self.name}: the dumps {where}"
         yield self.title
@@ -173,7 +172,6 @@ class Report:
 
     @property
     def table(self) -> Iterator[str]:
-        """A line for each difference."""
         differences = self.found.outcome.differences
         yield f"{'':10}{'cdc6600':22}{self.comparison.emulator.command}"
         for it in differences[:MOST]:

@@ -89,7 +89,6 @@ class Results:
         yield self.counts
 
     def as_json(self, command: str) -> str:
-        """All of it as JSON."""
         groups = [{"kind": kind, "decks": [it.name for it in group]} for kind, group in self.groups.items()]
         whole = {
             "command": command, "status": self.status, "calls": self.calls, "seconds": round(self.seconds, 3),

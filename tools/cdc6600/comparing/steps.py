@@ -46,7 +46,6 @@ class Steps:
         return " ".join(self.entries[:whole] + [f"I{rest}"] * bool(rest)) or NONE
 
     def entry(self, number: int) -> str:
-        """The entry that has a step."""
         return self.entries[bisect_right(self.ends, number - 1) - 1]
 
     def instruction(self, number: int) -> int:

@@ -6,7 +6,7 @@ from pathlib import Path
 from typing import Iterable
 
 from cdc6600.random_decks.kinds import drawn_deck, kind_of
-from cdc6600.shared.decks import decks, log_of, sessions
+from cdc6600.shared.decks import decks, sessions
 
 from .finding import Replayed
 from .proved import Given, Proved
@@ -56,9 +56,7 @@ class DrawnCase(Case):
 def stored_cases() -> list[StoredCase]:
     """The decks of decks/ that aren't refused, with their stored logs, and the sessions, whose logs have peripheral
     accesses too."""
-    printed = [*((it, it.dump) for it in decks()), *((it, it.answers) for it in sessions())]
-    logs = [(it, log_of(text)) for it, text in printed if text is not None]
-    return [StoredCase(str(it), it.text, log) for it, log in logs if log is not None]
+    return [StoredCase(str(it), it.text, it.log) for it in (*decks(), *sessions()) if it.log]
 
 
 def drawn_cases(seeds: Iterable[int]) -> list[DrawnCase]:

@@ -36,11 +36,9 @@ class Snapshot(Dump):
 
     @property
     def size(self) -> int:
-        """How many words of memory it has."""
         return len(self.memory) // OF_A_LINE
 
     def word(self, address: int) -> str:
-        """A word of memory, in its digits."""
         at = address * OF_A_LINE
         return self.memory[at + BEFORE_WORD : at + OF_A_LINE - 1].decode("latin-1")
 

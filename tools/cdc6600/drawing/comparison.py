@@ -37,7 +37,6 @@ class Timed:
         self.form.check_columns()
 
     def titled(self, picture: str) -> str:
-        """A picture below its name."""
         return f"<h3>{html.escape(self.name)}</h3>\n{picture}"
 
     def reservations(self) -> str:
@@ -53,7 +52,6 @@ def titles_of(files: Sequence[str]) -> list[str]:
 
 
 def arrange(forms: Sequence[Form]) -> None:
-    """Arranges drawings on one axis."""
     sizes = (max(it.wide for it in forms), max(it.column for it in forms), max(len(it.events) for it in forms))
     for form in forms:
         form.arrange(*sizes)

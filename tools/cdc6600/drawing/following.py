@@ -273,7 +273,6 @@ class Following:
         self.marks[row, n] = mark
 
     def is_refused(self, n: int) -> bool:
-        """Whether an event was refused."""
         return is_refusal(self.answers[n])
 
     def make(self, n: int, event: str) -> bool:

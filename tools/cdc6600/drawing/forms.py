@@ -219,7 +219,6 @@ class UnitForm(Form):
         return RESERVED if row != EVENTS and self.unit(row) in self.held[self.firsts[column]] else ""
 
     def rows_in(self, columns: Iterable[int]) -> list[int]:
-        """The rows of some columns: all."""
         return list(self.labels)
 
 

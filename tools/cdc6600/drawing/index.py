@@ -51,7 +51,6 @@ def link(name: str, said: str) -> str:
 
 
 def index(entries: Sequence[Entry]) -> str:
-    """The page that leads to all of them."""
     items = "".join(entry.row() for entry in entries)
     return Template(read("index.html")).substitute(style=read("page.css"), items=items, count=len(entries))
 

@@ -237,7 +237,6 @@ def tables_of_values(values: Mapping[str, str]) -> str:
 
 
 def table_of_values(head: str, names: Iterable[str], kind: str, values: Mapping[str, str]) -> str:
-    """The table of some values."""
     heads = "".join(f'<th scope="col">{it}</th>' for it in (head, "Octal", "Number"))
     rows = "".join(
         f'<tr id="values-{name}"><th scope="row">{name}</th><td>{values[name]}</td><td>{number_of(values[name])}</td>'

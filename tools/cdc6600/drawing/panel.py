@@ -37,7 +37,6 @@ class Panel:
         return {"Machine": self.condition(), "Next": self.next(), "Exchange": asked, "Log": self.log}
 
     def condition(self) -> str:
-        """Whether it runs."""
         halt, fault = self.state.halt, self.state.fault
         return said("panel state", halt="" if halt == RUNNING else halt, fault=str(fault or ""))
 

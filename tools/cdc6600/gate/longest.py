@@ -29,7 +29,6 @@ class Seen:
 
 
 def clock(seconds: float) -> str:
-    """Minutes and seconds."""
     return f"{int(seconds) // 60}:{int(seconds) % 60:02}"
 
 

@@ -46,7 +46,6 @@ class Word:
     subject: str
 
     def is_in(self, text: str) -> bool:
-        """Whether a text has the word."""
         return bool(re.search(rf"\b(?:{self.forms})\b", text))
 
     def is_misused(self, path: Path, line: str, passage: str) -> bool:

@@ -72,12 +72,10 @@ class Operation:
 
     @property
     def is_saved(self) -> bool:
-        """Whether a file has the events as they are."""
         return self.events == self.saved
 
     @property
     def progress(self) -> str:
-        """How many events were made."""
         return f"after {len(self.events)} {plural(self.events, 'event', 'events')}"
 
     @property
@@ -216,5 +214,4 @@ class Operation:
             raise Fault(file, "that is no name of a file") from None
 
     def close(self) -> None:
-        """Ends the program that answers."""
         self.conversation.end()

@@ -174,7 +174,6 @@ class Screen:
         return lines[max(len(lines) - height - self.scrolled, 0) :][:height]
 
     def put_all(self, lines: Iterable[str]) -> None:
-        """Puts lines below the title."""
         for at, line in enumerate(lines, 1):
             self.put(at, line)
 

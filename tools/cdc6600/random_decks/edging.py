@@ -43,7 +43,6 @@ class Edging:
         self.job.package.b[ZERO] = INDEX_ONES
 
     def load(self, number: int, among: Sequence[int]) -> None:
-        """Loads a word of the table into an X register."""
         self.code.add(spelled("51", i=number, j=0, K=self.draws.one_of(among)))
 
     def set_index(self, begin: str, number: int, value: int) -> None:

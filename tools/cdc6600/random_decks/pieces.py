@@ -25,7 +25,6 @@ def by_unit(codes: tuple[str, ...]) -> dict[str, list[str]]:
 
 
 def drawn_code(draws: Draws, codes: tuple[str, ...]) -> str:
-    """One of these codes."""
     found = by_unit(codes)
     return draws.one_of(found[draws.one_of([unit for unit in UNITS if found[unit]])])
 

@@ -96,7 +96,6 @@ class Referring:
         self.refer(self.draws.one_of(STORED), self.address())
 
     def set_a0(self) -> None:
-        """Sets A0, which makes no reference."""
         self.refer(0, self.address())
 
     def load_code(self) -> int:

@@ -28,6 +28,11 @@ class Stored:
         """What the file has."""
         return self.file.read_bytes()
 
+    @property
+    def log(self) -> str:
+        """The log at the end of what is printed for it, or nothing."""
+        return log_of(self.beside("dump") or self.beside("answers") or b"") or ""
+
     def beside(self, ending: str) -> bytes | None:
         """What the file with this ending has, or none where there is none."""
         file = self.folder / f"{self.name}.{ending}"

@@ -4,17 +4,17 @@ import errno
 from pathlib import Path
 from typing import BinaryIO
 
-# The most bytes of a file or of standard input, and of a source program, that a tool reads.
-MOST, MOST_OF_A_SOURCE = 64 << 20, 4 << 20
+# The most bytes of a file or of standard input that a tool reads.
+MOST = 64 << 20
 PIECE = 1 << 20
 
 
-def too_long(name: str, most: int) -> OSError:
+def too_long(name: str | None, most: int) -> OSError:
     """The fault of a file that has more bytes than are read."""
     return OSError(errno.EFBIG, f"it has more than {most} bytes, the most that is read", name)
 
 
-def read_stream(stream: BinaryIO, name: str, most: int = MOST) -> bytes:
+def read_stream(stream: BinaryIO, name: str | None, most: int = MOST) -> bytes:
     """All that an open stream of bytes has. The name goes into faults.
 
     Raises OSError if it can't be read, or has more than so many bytes."""

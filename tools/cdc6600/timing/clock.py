@@ -65,7 +65,6 @@ class Part:
         self.work += cycles
 
     def end(self, now: int) -> None:
-        """Its last event."""
         self.event, self.ended = "", now
 
 
@@ -116,7 +115,6 @@ class Clock:
             self.end(part)
 
     def end(self, part: Part) -> None:
-        """A reservation has no further effect."""
         part.end(self.now)
         self.pending.remove(part)
 

@@ -120,7 +120,6 @@ class Exploration:
 
     @property
     def orders(self) -> int:
-        """How many orders of events there are."""
         return sum(node.orders for node in self.ends)
 
     def next_layer(self, layer: list[Node]) -> list[Node]:

@@ -60,7 +60,6 @@ class Schedule:
         return "".join(f"{line}\n" for line in [*deck, *self.events, "end"])
 
     def followed(self) -> Following:
-        """The session as it is followed."""
         following = Following(self.program, Session(self.session.file, self.text()), None, None)
         following.follow()
         return following

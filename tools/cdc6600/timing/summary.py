@@ -46,7 +46,6 @@ def put(text: str) -> None:
 
 
 def counted(number: int, one: str, several: str) -> str:
-    """A number with the word for what is counted."""
     return f"{number} {plural(range(number), one, several)}"
 
 

@@ -73,7 +73,6 @@ class Judged:
         return self.retracing.machine.judge(self.event(part))
 
     def event(self, part: Part) -> str:
-        """The line of a part's next event."""
         return self.retracing.machine.state.next_of(part.number) if part.number else part.event
 
     def cause(self, part: Part, cycles: int) -> str:
