@@ -21,13 +21,13 @@ import re
 import sys
 from dataclasses import dataclass
 from pathlib import Path
-from typing import Callable
+from typing import Callable, Iterable, Iterator
 
 from cdc6600 import limits
-from cdc6600.crates.crate import crates
+from cdc6600.crates.crate import Source, crates
 from cdc6600.gate.parts import file_of
-from cdc6600.shared.decks import PAGES, deck, log_of, rows_of, session
-from cdc6600.shared.instructions import instruction
+from cdc6600.shared.decks import PAGES, Deck, deck, log_of, rows_of, session
+from cdc6600.shared.instructions import Instruction, instruction
 from cdc6600.shared.program import ROOT
 
 NUMBER = r"(0x[0-9a-f_]+|0o[0-7_]+|[0-9][0-9_]*)(?:[iu](?:8|16|32|64|size))?\b"
@@ -67,28 +67,29 @@ class Past:
     fault: Callable[[int], str | None]
 
 
-def counted(text, count, what, is_enough=lambda number, value: number > value):
+def counted(text: str, count: Callable[[], int], what: str, is_enough: Callable[[int, int], bool] = lambda number,
+            value: number > value) -> Past:
     """A deck or a session that goes past a limit where its count is enough."""
 
-    def fault(value):
+    def fault(value: int) -> str | None:
         number = count()
         return None if is_enough(number, value) else f"{text}: {what}: {number}, and the limit is {value}"
 
     return Past(f"{text}: {what}", fault)
 
 
-def code_of(it):
+def code_of(it: Deck) -> list[Instruction]:
     """The instructions of a deck's `code` lines, in their order."""
     lines = [line.removeprefix("code ") for line in it.text.decode().splitlines() if line.startswith("code ")]
-    return [instruction(text) for line in lines for text in line.split("; ")]
+    return [found for line in lines for found in map(instruction, line.split("; ")) if found]
 
 
-def both(one, other):
+def both(one: Past, other: Past) -> Past:
     """Two that go past a limit."""
     return Past(f"{one.text}; {other.text}", lambda value: one.fault(value) or other.fault(value))
 
 
-def dump_of(it):
+def dump_of(it: Deck) -> bytes:
     """What a deck prints.
 
     Raises FileNotFoundError where no file has it."""
@@ -97,29 +98,29 @@ def dump_of(it):
     return it.dump
 
 
-def longest(is_in, items):
+def longest(is_in: Callable[[Instruction], bool], items: Iterable[Instruction]) -> int:
     """The length of the longest stretch of items that are in it."""
     stretches = "".join("x" if is_in(item) else " " for item in items).split()
     return max(map(len, stretches), default=0)
 
 
-def straight(name):
+def straight(name: str) -> Past:
     """Passes of a deck, one after another: a hold of the lock ends neither at a refusal nor with its notes full."""
     it = deck(name)
     return counted(str(it), lambda: longest(lambda item: item.row.code == PASS, code_of(it)), "passes in a row")
 
 
-def results_of(item):
+def results_of(item: Instruction) -> list[str]:
     """The registers that an instruction sets."""
     found = re.match(r"(?:[BLAIMC]|S)([ABX][1-7]|[AX]0)\b", item.text)
     result = [found[1]] if found else []
     return result + [f"X{found[1][1]}"] if found and found[1] in LOADED else result
 
 
-def notes_of(items):
+def notes_of(items: Iterable[Instruction]) -> int:
     """How many notes a hold of the lock has that issues these instructions while all units are free. It ends at a busy
     unit, at a reserved result, at a stop and after a branch."""
-    units, reserved = [], []
+    units, reserved = list[str](), list[str]()
     for item in items:
         unit, results = item.row.unit, results_of(item)
         many = 2 if unit == "Increment" else 1
@@ -132,7 +133,7 @@ def notes_of(items):
     return len(units)
 
 
-def burst(name):
+def burst(name: str) -> Past:
     """The notes of the first hold of the lock, which fill the room for notes."""
     it = deck(name)
     return counted(
@@ -141,39 +142,39 @@ def burst(name):
     )
 
 
-def branches(name):
+def branches(name: str) -> Past:
     """The branches of a run of one loop. The issuing thread waits for each."""
     it = deck(name)
 
-    def count():
-        items, issued = code_of(it), sum(map(int, re.findall(r"I(\d+)", log_of(dump_of(it)))))
+    def count() -> int:
+        items, issued = code_of(it), sum(map(int, re.findall(r"I(\d+)", log_of(dump_of(it)) or "")))
         return issued * sum(item.row.unit == "Branch" for item in items) // len(items)
 
     return counted(str(it), count, "branches of its run")
 
 
-def requests(name):
+def requests(name: str) -> Past:
     """The requests of a deck, all of which are made."""
     it = deck(name)
     return counted(
-        str(it), lambda: min(it.text.count(b"\nask "), log_of(dump_of(it)).count("E") - 1),
+        str(it), lambda: min(it.text.count(b"\nask "), (log_of(dump_of(it)) or "").count("E") - 1),
         "requests that are made, as many as there may be", lambda number, value: number == value,
     )
 
 
-def shown(name):
+def shown(name: str) -> Past:
     """The words that a deck shows, which its program stores and loads one after another."""
     it = deck(name)
     return counted(str(it), lambda: len(re.findall(rb"^M ", dump_of(it), re.MULTILINE)), "words in a row that it shows")
 
 
-def size(name):
+def size(name: str) -> Past:
     """The words of a deck's memory."""
     it = deck(name)
     return counted(str(it), lambda: int(it.text.split()[1]), "words of memory")
 
 
-def loads(name):
+def loads(name: str) -> Past:
     """The channels that a deck's instructions load to. Channels count from 1, and the limit is the number after the
     last."""
     it, target = deck(name), re.compile(r"SA([1-5]) ")
@@ -183,32 +184,33 @@ def loads(name):
     )
 
 
-def references(name):
+def references(name: str) -> Past:
     """The references of a deck's instructions, which don't wait for each other's acceptance."""
     it, target = deck(name), re.compile(r"SA[1-7] ")
     return counted(str(it), lambda: sum(bool(target.match(at.text)) for at in code_of(it)), "references without a loop")
 
 
-def answered(name, answer):
+def answered(name: str, answer: str) -> Past:
     """A session that is refused an event by this answer, so that it came to the limit."""
     it = session(name)
 
-    def fault(_):
+    def fault(_: int) -> str | None:
         is_there = it.answers is not None and answer.encode() in it.answers.splitlines()
         return None if is_there else f"{it} has no answer {answer}"
 
     return Past(f"{it}: {answer}", fault)
 
 
-def fault_in(cell):
+def fault_in(cell: str) -> str:
     """The fault that a row of refusals.md names, without its line."""
     return cell.partition(": ")[2]
 
 
-def refused(fault_of_deck, number, is_past=lambda number, value: number > value):
+def refused(fault_of_deck: str, number: int, is_past: Callable[[int, int], bool] = lambda number,
+            value: number > value) -> Past:
     """A row of refusals.md with a number past the limit, and this fault."""
 
-    def fault(value):
+    def fault(value: int) -> str | None:
         rows = [text for text, line, _ in rows_of(PAGES / "refusals.md") if fault_in(line) == fault_of_deck]
         is_there = any(str(number) in re.findall(r"\d+", text) for text in rows)
         return None if is_there and is_past(number, value) else f"no deck of refusals.md has a number past {value}"
@@ -216,43 +218,44 @@ def refused(fault_of_deck, number, is_past=lambda number, value: number > value)
     return Past(f"decks/pages/refusals.md: {number} is refused as `{fault_of_deck}`", fault)
 
 
-def too_full():
+def too_full() -> Past:
     """A row of refusals.md with more parcels in a word than there are."""
 
-    def parcels(text):
+    def parcels(text: str) -> int:
         lines = [line.removeprefix("code ") for line in text.split("\\n") if line.startswith("code ")]
-        return max((sum(len(instruction(text).parcels) for text in line.split("; ")) for line in lines), default=0)
+        items = ([it for it in map(instruction, line.split("; ")) if it] for line in lines)
+        return max((sum(len(it.parcels) for it in of_line) for of_line in items), default=0)
 
     rows = [text for text, line, _ in rows_of(PAGES / "refusals.md") if fault_in(line) == "full"]
     return counted("decks/pages/refusals.md", lambda: max(map(parcels, rows), default=0), "parcels for one word")
 
 
-def asked_after(name):
+def asked_after(name: str) -> Past:
     """A deck with a request after as many instructions as the limit says."""
     it = deck(name)
     return counted(
-        str(it), lambda: int(re.search(rb"^ask \d+ after (\d+)$", it.text, re.MULTILINE)[1]),
+        str(it), lambda: int(re.findall(rb"^ask \d+ after (\d+)$", it.text, re.MULTILINE)[0]),
         "instructions before a request", lambda number, value: number == value,
     )
 
 
-def asleep(name, who):
+def asleep(name: str, who: str) -> Past:
     """A deck in whose run a thread waits from the beginning to the end. How often it looks isn't counted."""
     it = deck(name)
     text = f"{it}: {who} waits as long as the run takes"
     return Past(text, lambda _: None if dump_of(it) else f"{it} prints nothing")
 
 
-def filled(text, value):
+def filled(text: str, value: int) -> str:
     """A text with the limit and the numbers beside it."""
     return text.format(value=value, less=value - 1, more=value + 1)
 
 
-def named(path, *texts):
+def named(path: str, *texts: str) -> Past:
     """A check or a test that goes past the limit, by texts that it has. In these, `{value}` is the limit, and `{less}`
     and `{more}` are the numbers beside it."""
 
-    def fault(value):
+    def fault(value: int) -> str | None:
         words = [filled(text, value) for text in texts]
         file = ROOT / path
         text = file.read_text(encoding="utf-8") if file.is_file() else None
@@ -264,20 +267,20 @@ def named(path, *texts):
     return Past(f"{path}: {', '.join(texts)}", fault)
 
 
-def check(name, *words):
+def check(name: str, *words: str) -> Past:
     """A check of the program, or a module of such checks."""
     return named(file_of(name), *words)
 
 
-def test(path, *words):
+def test(path: str, *words: str) -> Past:
     """A test of a crate."""
     return named(f"crates/{path}", *words)
 
 
-def repeated(name, past, more=0):
+def repeated(name: str, past: Past, more: int = 0) -> Past:
     """What goes past a limit that the tools repeat by this name; a source may have a number above it, by so much."""
 
-    def fault(value):
+    def fault(value: int) -> str | None:
         own = getattr(limits, name) + more
         told = f"tools/cdc6600/limits.py: {name} makes this {own}, and the limit is {value}"
         return past.fault(value) or (None if own == value else told)
@@ -285,7 +288,7 @@ def repeated(name, past, more=0):
     return Past(past.text, fault)
 
 
-def nothing(why):
+def nothing(why: str) -> Past:
     """No input goes past the limit, for this reason."""
     return Past(f"nothing goes past it: {why}", lambda _: None)
 
@@ -401,7 +404,7 @@ LIMITS = {
 }
 
 
-def fault_of(past, value):
+def fault_of(past: Past, value: int) -> str | None:
     """What is wrong with what goes past a limit, or nothing."""
     try:
         return past.fault(value)
@@ -409,7 +412,7 @@ def fault_of(past, value):
         return f"there is no {Path(fault.filename).relative_to(ROOT)}"
 
 
-def limits_in(source):
+def limits_in(source: Source) -> Iterator[Found]:
     """The limits of a source."""
     path = source.path.removeprefix("crates/")
     for line in source.lines:
@@ -421,7 +424,7 @@ def limits_in(source):
                     yield Found(path, name, value)
 
 
-def main():
+def main() -> int:
     is_list = sys.argv[1:] == ["--list"]
     found = {limit for crate in crates() for source in crate.code for limit in limits_in(source)}
     names = {(it.path, it.name) for it in found}
