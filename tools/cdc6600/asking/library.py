@@ -11,6 +11,8 @@ import subprocess
 import sys
 from functools import cache
 from pathlib import Path
+from types import ModuleType
+from typing import Any
 
 from cdc6600.shared.ending import printable
 from cdc6600.shared.program import BUILT, IS_CHECKOUT, ROOT, UNPROVED, is_current, named_program
@@ -28,27 +30,27 @@ NO_ROOM = "failed to map segment"
 class NoLibrary(SystemExit):
     """There is no such library. It ends the script with a line that says so."""
 
-    def __init__(self, what):
+    def __init__(self, what: object) -> None:
         super().__init__(printable(f"{sys.argv[0]}: {what}; {OTHER}"))
 
 
-def tell(words):
+def tell(words: str) -> None:
     """Tells something of the library, after the name of the script."""
     print(printable(f"{sys.argv[0]}: {words}"), file=sys.stderr, flush=True)
 
 
-def build(*words):
+def build(*words: str) -> None:
     """Builds the library where the tools look for it."""
-    if subprocess.run([ROOT / "tools/build-library", *words, KEPT.parent], check=False).returncode:
+    if subprocess.run([f"{ROOT}/tools/build-library", *words, str(KEPT.parent)], check=False).returncode:
         raise NoLibrary("the library could not be built")
 
 
-def is_unproved():
+def is_unproved() -> bool:
     """Whether the program that runs in a checkout is the one without its proof."""
     return not named_program() and not is_current(BUILT) and is_current(UNPROVED)
 
 
-def unproved_path():
+def unproved_path() -> Path:
     """The library without its proof, which is told. It is built first if it isn't that of the sources as they are."""
     tell("UNPROVED: the library is built from the sources without their proof")
     if not is_current(KEPT_UNPROVED):
@@ -56,7 +58,7 @@ def unproved_path():
     return KEPT_UNPROVED
 
 
-def library_path():
+def library_path() -> Path:
     """The library that CDC6600_LIBRARY names, or that is installed, or that of the sources as they are."""
     if os.environ.get("CDC6600_LIBRARY"):
         return Path(os.environ["CDC6600_LIBRARY"]) / SHARED
@@ -71,16 +73,17 @@ def library_path():
 
 
 @cache
-def declarations():
+def declarations() -> ModuleType:
     """The module of the example that declares the functions."""
     spec = importlib.util.spec_from_file_location("cdc6600_declarations", DECLARATIONS)
+    assert spec and spec.loader
     module = importlib.util.module_from_spec(spec)
     spec.loader.exec_module(module)
     return module
 
 
 @cache
-def library():
+def library() -> Any:
     """The functions of the library.
 
     Raises NoLibrary where there is none, and MemoryError where there is no memory for it."""

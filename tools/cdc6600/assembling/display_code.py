@@ -1,10 +1,12 @@
 """Display code, in which a word has ten characters: the words that DATA has for a text, and the text of a word."""
 
+from typing import Iterable
+
 from .faults import Wrong, quoted
 from .language import LANGUAGE, PATTERNS
 
 # The characters from code 1 on, which all sites have. A text of DATA can't have the star.
-CHARACTERS = LANGUAGE["characters"]
+CHARACTERS: str = LANGUAGE["characters"]
 CODES = {character: code for code, character in enumerate(CHARACTERS, 1)}
 # The 64-character set from code 0 on, in ASCII, as the manual of GNU recode 3.6 has it, section "Control Data's Display
 # Code". In the 63-character set the colon is code 63, and code 0 is no character. It is shown as a blank.
@@ -16,12 +18,12 @@ CHARACTER_BITS, OF_A_WORD = 6, 10
 FILLS = {letter: CODES.get(character, 0) for letter, character in LANGUAGE["fills"].items()}
 
 
-def is_text(value):
+def is_text(value: str) -> bool:
     """Whether a value of DATA begins as a text."""
     return bool(PATTERNS["begin of a text"].match(value))
 
 
-def words_of(value, column):
+def words_of(value: str, column: int) -> list[int]:
     """The words of a text with its letter and its stars, which begins at this column.
 
     Raises Wrong where it is none."""
@@ -36,7 +38,7 @@ def words_of(value, column):
     return [word_of(codes[at : at + OF_A_WORD]) for at in range(0, len(codes), OF_A_WORD)]
 
 
-def word_of(codes):
+def word_of(codes: Iterable[int]) -> int:
     """The word of ten characters."""
     word = 0
     for code in codes:
@@ -44,6 +46,6 @@ def word_of(codes):
     return word
 
 
-def text_of(word, characters=SET_64):
+def text_of(word: str, characters: str = SET_64) -> str:
     """The ten characters of a word, given as its 20 octal digits."""
     return "".join(characters[int(word[at : at + 2], 8)] for at in range(0, len(word), 2))

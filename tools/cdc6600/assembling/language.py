@@ -6,4 +6,4 @@ import re
 from pathlib import Path
 
 LANGUAGE = json.loads(Path(__file__).resolve().with_name("language.json").read_text(encoding="utf-8"))
-PATTERNS = {name: re.compile(it) for name, it in LANGUAGE["patterns"].items()}
+PATTERNS: dict[str, re.Pattern[str]] = {name: re.compile(it) for name, it in LANGUAGE["patterns"].items()}

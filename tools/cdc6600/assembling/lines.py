@@ -31,27 +31,27 @@ class Line:
     operands_column: int = 1
 
     @property
-    def statement(self):
+    def statement(self) -> str:
         """The operation with its operands."""
         return f"{self.operation} {self.operands}".rstrip()
 
     @property
-    def fields(self):
+    def fields(self) -> list[tuple[str, int]]:
         """The fields of the operands, between blanks, each with its column."""
         return self.parted(" ")
 
     @property
-    def values(self):
+    def values(self) -> list[tuple[str, int]]:
         """The values of the operands, between commas, each with its column."""
         return self.parted(",")
 
-    def parted(self, mark):
+    def parted(self, mark: str) -> list[tuple[str, int]]:
         """The parts of the operands between marks that are in no text, each with its column."""
         marks = [it.start() for it in re.finditer(f"{TEXT}|{mark}", self.operands) if it[0] == mark]
         begins = [0, *(at + 1 for at in marks)] if self.operands else []
         return [(self.operands[at:end], self.operands_column + at) for at, end in zip(begins, [*marks, None])]
 
-    def check_letters(self):
+    def check_letters(self) -> None:
         """Raises Wrong for a part with small letters. Those of a byte that is no text, as `\\xff`, don't count."""
         parts = (self.label, 1), (self.operation, self.column), (self.operands, self.operands_column)
         for part, column in parts:
@@ -59,18 +59,19 @@ class Line:
                 raise Wrong(column, "small letters", text=quoted(part))
 
 
-def read_line(number, text):
+def read_line(number: int, text: str) -> Line:
     """Reads the line of this number.
 
     Raises Wrong for operands of an operation that has none."""
     if text.startswith(COMMENT):
         return Line(number, text)
     found = FORM.match(text)
+    assert found
     label, operation, gap = found.groups()
     column = found.start(2) + 1 if operation else len(text) + 1
     operands_column = column + len(operation) + max(len(gap), 1)
     rest = text[found.end() :]
-    operands = OPERANDS.match(TAB.sub(" ", rest) if operation in SETTERS else rest)[0]
+    operands = OPERANDS.findall(TAB.sub(" ", rest) if operation in SETTERS else rest)[0]
     if operation in ALONE:
         if gap == " " and operands:
             raise Wrong(operands_column, "operands of none", text=quoted(operands), operation=operation)
@@ -78,7 +79,7 @@ def read_line(number, text):
     return Line(number, text, label, operation, operands, column, operands_column)
 
 
-def lines_of(text):
+def lines_of(text: str) -> list[str]:
     """The lines of a source program, without the characters that end them."""
     lines = text.split("\n")
     return [line.removesuffix("\r") for line in (lines if lines[-1] else lines[:-1])]

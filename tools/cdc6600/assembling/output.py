@@ -1,11 +1,12 @@
 """What is printed of an assembled program: its deck, or its listing."""
 
-# The width of what stands before a line of the source, and what stands between two columns.
-BETWEEN = " "
+from typing import Iterator
+
+from .program import Program
+from .settings import Settings
 
 
-def deck_of(program, settings):
-    """The lines of the deck."""
+def deck_of(program: Program, settings: Settings) -> list[str]:
     lines, words = [f"core {settings.size}"], dict(enumerate(settings.package_words, settings.package))
     placed = {address: f"word {word:020o}" for address, word in words.items() if word}
     placed.update({settings.reference + it.address: it.deck_line for it in program.words.values()})
@@ -20,15 +21,14 @@ def deck_of(program, settings):
     return [*lines, "end"]
 
 
-def listing_of(program):
-    """The lines of the listing."""
+def listing_of(program: Program) -> list[str]:
     return [line for _, line in numbered_listing(program)]
 
 
-def numbered_listing(program):
+def numbered_listing(program: Program) -> Iterator[tuple[int, str]]:
     """The lines of the listing: those of the source, each with its number, and with the address and the word that
     begins with it; a line of DATA has a further line for each further word, without a number."""
-    of_lines = {}
+    of_lines: dict[int, list[str]] = {}
     for word in program.words.values():
         of_lines.setdefault(word.number, []).append(f"{word.address:06o} {word.word:020o}")
     for number, text in enumerate(program.texts, 1):

@@ -2,15 +2,18 @@
 
 from dataclasses import dataclass, field
 from functools import partial
+from pathlib import Path
+from typing import Callable, Mapping
 
 from cdc6600.limits import MOST_WORDS
+from cdc6600.shared.instructions import Instruction
 
 from .display_code import is_text, words_of
 from .faults import Faults, Wrong, quoted
 from .language import LANGUAGE
 from .lines import SETTERS, Line, lines_of, read_line
 from .short_forms import OF_OTHERS
-from .texts import written
+from .texts import Written, written
 from .values import NAME, REGISTER, WORD_BITS, fitted, value_of, within
 
 PARCELS, PASS = 4, 0o46000
@@ -28,20 +31,19 @@ class Coded:
     """A word of instructions: its address, and the lines that they are from."""
 
     address: int
-    parts: list = field(default_factory=list)
-    instructions: list = field(default_factory=list)
+    parts: list[tuple[Line, Written]] = field(default_factory=list)
+    instructions: list[Instruction] = field(default_factory=list)
 
     @property
-    def number(self):
-        """The number of its first line."""
+    def number(self) -> int:
         return self.parts[0][0].number
 
     @property
-    def free(self):
+    def free(self) -> int:
         """How many parcels are free."""
         return PARCELS - sum(it.parcels for _, it in self.parts)
 
-    def resolve(self, names, faults):
+    def resolve(self, names: Mapping[str, int], faults: Faults) -> None:
         """Gives the values of names to its instructions."""
         for line, it in self.parts:
             try:
@@ -50,15 +52,14 @@ class Coded:
                 faults.add(line.number, wrong)
 
     @property
-    def word(self):
+    def word(self) -> int:
         """The word, filled up with passes."""
         parcels = [parcel for it in self.instructions for parcel in it.parcels]
         filled = (parcels + [PASS] * PARCELS)[:PARCELS]
         return sum(parcel << 15 * (PARCELS - 1 - at) for at, parcel in enumerate(filled))
 
     @property
-    def deck_line(self):
-        """Its line in a deck."""
+    def deck_line(self) -> str:
         return f"code {'; '.join(it.text for it in self.instructions)}"
 
 
@@ -73,11 +74,10 @@ class Given:
     word: int | None = None
 
     @property
-    def number(self):
-        """The number of its line."""
+    def number(self) -> int:
         return self.line.number
 
-    def resolve(self, names, faults):
+    def resolve(self, names: Mapping[str, int], faults: Faults) -> None:
         """Gives it its value, if it hasn't one."""
         if self.word is not None:
             return
@@ -87,19 +87,20 @@ class Given:
             faults.add(self.number, wrong)
 
     @property
-    def deck_line(self):
-        """Its line in a deck."""
+    def deck_line(self) -> str:
         return f"word {self.word:020o}"
 
 
 class Program:
     """A source program by its name and its text. Addresses are those of the program, from RA on."""
 
-    def __init__(self, name, text):
+    def __init__(self, name: str | Path, text: str) -> None:
         self.faults, self.texts = Faults(name), lines_of(text)
-        self.names, self.defined, self.words, self.settings = {}, {}, {}, []
+        self.names, self.defined, self.settings = dict[str, int](), dict[str, int](), list[Line]()
+        self.words: dict[int, Coded | Given] = {}
         # The next address, the highest one so far, the word that may take more instructions, and where lines begin.
-        self.address, self.top, self.open, self.begins = 0, 0, None, {}
+        self.address, self.top, self.begins = 0, 0, dict[int, int]()
+        self.open: Coded | None = None
         # The number of the line with END.
         self.end = 0
         for number, line in enumerate(self.texts, 1):
@@ -108,15 +109,14 @@ class Program:
         for word in self.words.values():
             word.resolve(self.names, self.faults)
 
-    def guarded(self, number, work):
+    def guarded(self, number: int, work: Callable[[], object]) -> None:
         """Does some work on a line, and keeps what is wrong with the line."""
         try:
             work()
         except Wrong as wrong:
             self.faults.add(number, wrong)
 
-    def read(self, number, text):
-        """Reads a line."""
+    def read(self, number: int, text: str) -> None:
         line = read_line(number, text)
         if len(line.fields) > 1 and line.operation not in SETTERS:
             raise Wrong(line.fields[1][1] - 1, "blank")
@@ -146,7 +146,7 @@ class Program:
         elif line.operation:
             self.instruct(line, written(line))
 
-    def define(self, line, value):
+    def define(self, line: Line, value: int) -> None:
         """Defines the name in a line's first column."""
         name = line.label
         if not NAME.fullmatch(name):
@@ -157,56 +157,52 @@ class Program:
             raise Wrong(1, "defined", name=name, line=str(self.defined[name]))
         self.names[name], self.defined[name] = value, line.number
 
-    def known(self, line):
+    def known(self, line: Line) -> int:
         """The value of a line's operands, by the names that are defined above it."""
         if not line.operands:
             raise Wrong(line.operands_column, "no operand", operation=line.operation)
         return value_of(line.operands, line.operands_column, self.names, True)
 
-    def finish(self, line):
-        """Ends the source."""
+    def finish(self, line: Line) -> None:
         if line.label:
             raise Wrong(1, "takes no label", operation=END)
         if line.operands not in ("", START):
             raise Wrong(line.operands_column, "operands of END", text=quoted(line.operands))
         self.end = line.number
 
-    def equal(self, line):
-        """Defines a name that isn't a label."""
+    def equal(self, line: Line) -> None:
         if not line.label:
             raise Wrong(1, "no name")
         self.define(line, self.known(line))
 
-    def move(self, line):
-        """Goes on at another address."""
+    def move(self, line: Line) -> None:
         self.address = within(self.known(line), 0, MOST_WORDS - 1, line.operands_column)
 
-    def reserve(self, line):
-        """Leaves words free."""
+    def reserve(self, line: Line) -> None:
         count = within(self.known(line), 0, MOST_WORDS, line.operands_column)
         self.begins[line.number] = self.address
         self.address += count
         self.top = max(self.top, self.address)
 
-    def data(self, line):
-        """Places the words of DATA."""
+    def data(self, line: Line) -> None:
         if not line.operands:
             raise Wrong(line.operands_column, "no values", operation=line.operation)
         for text, column in line.values:
-            for word in words_of(text, column) if is_text(text) else [None]:
+            words: list[int | None] = [*words_of(text, column)] if is_text(text) else [None]
+            for word in words:
                 self.place(line, Given(self.address, line, text, column, word))
                 self.address += 1
 
-    def line_at(self, address, parcel):
+    def line_at(self, address: int, parcel: int) -> int | None:
         """The number of the line whose instruction begins at a parcel of a word, or none."""
-        at = 0
-        for line, it in getattr(self.words.get(address), "parts", []):
+        at, word = 0, self.words.get(address)
+        for line, it in word.parts if isinstance(word, Coded) else []:
             if at == parcel:
                 return line.number
             at += it.parcels
         return None
 
-    def instruct(self, line, it):
+    def instruct(self, line: Line, it: Written) -> None:
         """Places an instruction: in the word before if it has room, else in the next one."""
         if self.open and self.open.free < it.parcels:
             self.close()
@@ -218,13 +214,12 @@ class Program:
         if line.operation in UNCONDITIONAL:
             self.close()
 
-    def close(self):
+    def close(self) -> None:
         """Fills up the word that may take more instructions, if there is one."""
         if self.open:
             self.open, self.address = None, self.address + 1
 
-    def place(self, line, word):
-        """Places a word."""
+    def place(self, line: Line, word: Coded | Given) -> None:
         other = self.words.get(word.address)
         if other:
             raise Wrong(line.column, "placed", address=f"{word.address:o}", line=str(other.number))

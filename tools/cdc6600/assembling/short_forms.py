@@ -3,6 +3,8 @@
 docs/use/instructions.md shows this table, and `tools/check assembler` compares the two.
 """
 
+from typing import Iterator
+
 # The text of each instruction with the short forms that stand for it. SA and SB have the short forms of SX, too.
 OF_INSTRUCTIONS = (
     ("SXi B0+K", "SXi K"),
@@ -29,7 +31,7 @@ TABLE = OF_INSTRUCTIONS + OF_OTHERS
 INCREMENT, INCREMENTS = "SX", ("SX", "SA", "SB")
 
 
-def each_short_form():
+def each_short_form() -> Iterator[tuple[str, str]]:
     """The short forms of instructions, each with the text that it stands for."""
     for text, *forms in OF_INSTRUCTIONS:
         for name in INCREMENTS if text.startswith(INCREMENT) else (INCREMENT,):

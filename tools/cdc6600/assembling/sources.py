@@ -3,6 +3,13 @@
 The assembler reads a page when it is imported, which takes longer than many a run. So only a source program imports it.
 """
 
+from pathlib import Path
+from typing import TYPE_CHECKING
+
+if TYPE_CHECKING:
+    from .program import Program
+    from .settings import Settings
+
 ENDING = ".source"
 MOST_LINES = 1_000_000
 
@@ -10,11 +17,11 @@ MOST_LINES = 1_000_000
 class Refused(Exception):
     """A source program with a fault: where its first fault is, and what is wrong there."""
 
-    def __str__(self):
+    def __str__(self) -> str:
         return ": ".join(self.args)
 
 
-def read_source(name, content):
+def read_source(name: str | Path, content: bytes) -> tuple["Program", "Settings"]:
     """The program and the settings of a source program, by its name and its bytes.
 
     Raises Refused if it has too many lines."""
@@ -27,7 +34,7 @@ def read_source(name, content):
     return program, Settings(program)
 
 
-def as_deck(file, content):
+def as_deck(file: str | Path, content: bytes) -> bytes:
     """What a file has, as a deck. If its name says that it is a source program, that is assembled.
 
     Raises Refused if the source program has a fault."""

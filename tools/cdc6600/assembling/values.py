@@ -1,5 +1,7 @@
 """Values in a source program: sums of numbers and names."""
 
+from typing import Mapping
+
 from .faults import Wrong, quoted
 from .language import LANGUAGE, PATTERNS
 
@@ -8,11 +10,11 @@ NAME, REGISTER = PATTERNS["name"], PATTERNS["register"]
 FIRST, FURTHER = PATTERNS["first term"], PATTERNS["further term"]
 OCTAL, DECIMAL = PATTERNS["octal"], PATTERNS["decimal"]
 # No number of a term is longer.
-DIGITS = LANGUAGE["digits"]
+DIGITS: int = LANGUAGE["digits"]
 INDEX_BITS, WORD_BITS = 18, 60
 
 
-def number_of(term, column):
+def number_of(term: str, column: int) -> int:
     """The number that a term is which begins with a digit."""
     octal, decimal = OCTAL.fullmatch(term), DECIMAL.fullmatch(term)
     if len(term) > DIGITS:
@@ -24,7 +26,7 @@ def number_of(term, column):
     raise Wrong(column, "no number", text=quoted(term))
 
 
-def term_of(term, column, names, above):
+def term_of(term: str, column: int, names: Mapping[str, int], above: bool) -> int:
     """The number that a term stands for. `above` says that a name should be defined above its line."""
     if not term:
         raise Wrong(column, "missing")
@@ -39,13 +41,15 @@ def term_of(term, column, names, above):
     return names[term]
 
 
-def value_of(text, column, names, above=False):
+def value_of(text: str, column: int, names: Mapping[str, int], above: bool = False) -> int:
     """The number that a text stands for, which begins at this column.
 
     Raises Wrong where it is no value."""
     total, at = 0, 0
     while at < len(text) or not at:
-        sign, term = (FURTHER if at else FIRST).match(text, at).groups()
+        found = (FURTHER if at else FIRST).match(text, at)
+        assert found
+        sign, term = found.groups()
         at += len(sign)
         value = term_of(term, column + at, names, above)
         total += -value if sign == "-" else value
@@ -53,12 +57,12 @@ def value_of(text, column, names, above=False):
     return total
 
 
-def octal(number):
+def octal(number: int) -> str:
     """A number in octal digits, with its sign."""
     return f"-{-number:o}" if number < 0 else f"{number:o}"
 
 
-def within(number, least, most, column):
+def within(number: int, least: int, most: int, column: int) -> int:
     """A number that is at least and at most these.
 
     Raises Wrong where it isn't."""
@@ -67,7 +71,7 @@ def within(number, least, most, column):
     return number
 
 
-def fitted(number, bits, column):
+def fitted(number: int, bits: int, column: int) -> int:
     """A number as so many bits: a negative one is the complement of its magnitude.
 
     Raises Wrong where it has more of them."""

@@ -19,6 +19,7 @@ import time
 from concurrent.futures import ThreadPoolExecutor
 from contextlib import ExitStack, contextmanager
 from pathlib import Path
+from typing import Iterator
 
 from cdc6600.gate.parts import NAMES, command
 from cdc6600.shared.program import ROOT
@@ -34,7 +35,7 @@ while os.getppid() == parent:
 """
 
 
-def arguments():
+def arguments() -> argparse.Namespace:
     parser = argparse.ArgumentParser(description=__doc__, formatter_class=argparse.RawDescriptionHelpFormatter)
     parser.add_argument("--times", metavar="N", type=int, default=TIMES, help=f"how many rounds, or {TIMES}")
     parser.add_argument("--busy", metavar="M", type=int, default=BUSY, help=f"how many busy processes, or {BUSY}")
@@ -49,8 +50,7 @@ def arguments():
 
 
 @contextmanager
-def busy(many):
-    """Keeps processors busy by so many processes."""
+def busy(many: int) -> Iterator[None]:
     with ExitStack() as processes:
         for _ in range(many):
             process = processes.enter_context(subprocess.Popen([sys.executable, "-c", COUNTING]))
@@ -58,31 +58,31 @@ def busy(many):
         yield
 
 
-def is_silent(name):
+def is_silent(name: str) -> bool:
     """Whether a check finds nothing. What it says is printed where it doesn't."""
     begun = time.monotonic()
-    piped = {"stdin": subprocess.DEVNULL, "stdout": subprocess.PIPE, "stderr": subprocess.STDOUT}
-    ran = subprocess.run(command(name), cwd=ROOT, text=True, errors="replace", check=False, **piped)
+    ran = subprocess.run(command(name), cwd=ROOT, text=True, errors="replace", check=False, stdin=subprocess.DEVNULL,
+                         stdout=subprocess.PIPE, stderr=subprocess.STDOUT)
     if ran.returncode:
         seconds = time.monotonic() - begun
         print(f"{name} fails with status {ran.returncode} after {seconds:.0f} s:\n{ran.stdout}", end="", flush=True)
     return ran.returncode == 0
 
 
-def wait_for_quiet_to_end():
+def wait_for_quiet_to_end() -> None:
     """Waits while somebody wants the machine to be quiet."""
     while os.environ.get("QUIET") and Path(os.environ["QUIET"]).exists():
         time.sleep(1)
 
 
-def failures_of_round(given):
+def failures_of_round(given: argparse.Namespace) -> int:
     """Runs each check once; how many fail."""
     wait_for_quiet_to_end()
     with busy(given.busy), ThreadPoolExecutor(1 if given.in_turn else len(given.checks)) as pool:
         return list(pool.map(is_silent, given.checks)).count(False)
 
 
-def main():
+def main() -> int:
     given = arguments()
     failed = sum(failures_of_round(given) for _ in range(given.times))
     print(f"{given.times * len(given.checks)} runs, {failed} failed")

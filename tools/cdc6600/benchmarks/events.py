@@ -31,20 +31,20 @@ TURN = (
 LENGTHS, LONG = (1_000, 10_000, 100_000, 1_000_000), 100_000
 
 
-def session(length):
+def session(length: int) -> str:
     """The deck and a schedule of so many lines."""
     lines = (*DECK, *itertools.islice(itertools.cycle(TURN), length), "drain")
     return "".join(f"{line}\n" for line in lines)
 
 
-def best(program, length, runs, room):
+def best(program: str, length: int, runs: int, room: Path) -> float:
     """The seconds of the best of so many runs of a schedule of so many lines."""
     text = room / "session"
     text.write_text(session(length), encoding="ascii")
     return min(timed([program, "events"], text, room / "answers", [HALTED]) for _ in range(runs))
 
 
-def main():
+def main() -> int:
     runs, program = int(sys.argv[1]) if sys.argv[1:] else 15, program_path()
     with tempfile.TemporaryDirectory() as name:
         room = Path(name)

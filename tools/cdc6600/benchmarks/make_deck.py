@@ -19,6 +19,7 @@ with other numbers than 0.
 
 import math
 import sys
+from typing import Iterable, Iterator
 
 from cdc6600.limits import MOST_INSTRUCTIONS, MOST_WORDS
 
@@ -54,20 +55,19 @@ SUBROUTINES = range(129, 137, 2)
 class Draws:
     """Drawn numbers, and what is made of them."""
 
-    def __init__(self):
+    def __init__(self) -> None:
         self.seed = 6600.0
 
-    def below(self, bound):
+    def below(self, bound: int) -> int:
         """The next number from 0 to below a bound. The figures of bench/README.md are of decks that were drawn by
         `awk`, which computes with floating-point numbers, so the product is rounded here too."""
         self.seed = math.fmod(self.seed * 1103515245.0 + 12345.0, 2147483648.0)
         return int(self.seed / 65536) % bound
 
-    def digits(self, many):
-        """So many octal digits."""
+    def digits(self, many: int) -> str:
         return "".join(str(self.below(8)) for _ in range(many))
 
-    def register_instruction(self):
+    def register_instruction(self) -> str:
         """A one-parcel instruction of registers alone."""
         kind = self.below(16)
         if kind < 8:
@@ -80,11 +80,11 @@ class Draws:
             return f"4{3 if self.below(2) else 7}{self.digits(3)}"
         return f"{6 + self.below(2)}{3 + self.below(5)}{self.digits(3)}"
 
-    def word_of_instructions(self):
+    def word_of_instructions(self) -> str:
         """A word of four such instructions."""
         return "".join(self.register_instruction() for _ in range(4))
 
-    def jump(self, to):
+    def jump(self, to: int) -> str:
         """A branch to a word, or a return jump to one of the subroutines after the loop."""
         kind = self.below(8)
         if kind < 2:
@@ -93,27 +93,26 @@ class Draws:
             return f"03{self.digits(2)}{to:06o}"
         return f"0{4 + self.below(4)}{self.digits(2)}{to:06o}"
 
-    def sum(self):
+    def sum(self) -> str:
         """A sum of X registers or an exclusive or, which keep drawn words as good as drawn."""
         return f"{'13' if self.below(2) else '36'}{1 + self.below(7)}{self.digits(2)}"
 
 
-def straight(draws, is_mixed):
+def straight(draws: Draws, is_mixed: bool) -> Iterator[str]:
     """Eight words, repeated, or as many drawn ones."""
     words = [draws.word_of_instructions() for _ in range(8)]
     for number in range(WORDS):
         yield f"word {draws.word_of_instructions() if is_mixed else words[number % 8]}"
 
 
-def references(draws):
-    """The loop over the tables, and the tables."""
+def references(draws: Draws) -> Iterator[str]:
     yield from (f"word {word}" for word in REFERENCES)
     yield "at 41000"
     for _ in range(TABLES):
         yield f"word {draws.digits(20)}"
 
 
-def branches(draws):
+def branches(draws: Draws) -> Iterator[str]:
     """The loop of branches and the subroutines. The words stand in pairs: a branch that is taken goes over the rest of
     its pair."""
     for number in range(0, 128, 2):
@@ -125,8 +124,7 @@ def branches(draws):
         yield f"word 20303361130400{link:06o}"  # LX3 3; IX1 X1+X3; EQ B0,B0 to the link word
 
 
-def code(kind):
-    """The lines of a deck's program."""
+def code(kind: str) -> Iterable[str]:
     draws = Draws()
     if kind == "loop":
         return [f"word {word}" for word in LOOP]
@@ -137,8 +135,7 @@ def code(kind):
     return straight(draws, kind == "mixed")
 
 
-def lines_of(kind):
-    """The lines of a deck."""
+def lines_of(kind: str) -> Iterator[str]:
     yield f"core {MOST_WORDS}"
     yield "at 40"
     for _ in PACKAGES:
@@ -150,12 +147,11 @@ def lines_of(kind):
     yield from ("start 40", "show 40 517", "show 1000 1777", "show 41000 41777", "end")
 
 
-def deck(kind):
-    """A deck of this kind."""
+def deck(kind: str) -> bytes:
     return "".join(f"{line}\n" for line in lines_of(kind)).encode()
 
 
-def log(kind):
+def log(kind: str) -> str:
     """The longest log of such a deck: once through the straight-line code with each package, or a loop for as long as a
     log can be."""
     if kind not in STRAIGHT:
@@ -163,7 +159,7 @@ def log(kind):
     return " ".join(f"E{package:o} I{INSTRUCTIONS}" for package in PACKAGES)
 
 
-def main():
+def main() -> int:
     words = sys.argv[1:]
     if len(words) != 1 or words[0] not in KINDS:
         print(f"{sys.argv[0]}: one of these kinds has to be named: {' '.join(KINDS)}", file=sys.stderr)

@@ -16,16 +16,16 @@ SIZES = (LEAST_WORDS, MOST_WORDS)
 MEASURED = ("env", "time", "-f", "%M KiB")
 
 
-def deck(size):
+def deck(size: int) -> str:
     """A deck of so many words. All of them stop but those of the package at 0, whose field is 400000 words long."""
     words = (f"word {'400000000000000000' if address == 2 else 0}" for address in range(size))
     return "".join(f"{line}\n" for line in (f"core {size}", *words, "start 0", "end"))
 
 
-def main():
+def main() -> int:
     program = program_path()
     for size in SIZES:
-        pipes = {"stdout": subprocess.DEVNULL, "stderr": subprocess.PIPE, "text": True}
-        ran = subprocess.run([*MEASURED, program, "run"], input=deck(size), check=True, **pipes)
+        ran = subprocess.run([*MEASURED, program, "run"], input=deck(size), check=True, text=True,
+                             stdout=subprocess.DEVNULL, stderr=subprocess.PIPE)
         print(f"{size:6} words: {ran.stderr}", end="", flush=True)
     return 0

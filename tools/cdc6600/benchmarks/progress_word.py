@@ -20,6 +20,7 @@ import sys
 import tempfile
 import time
 from pathlib import Path
+from typing import Iterator, Sequence
 
 from cdc6600.limits import MOST_INSTRUCTIONS, MOST_WORDS
 from cdc6600.shared.program import program_path
@@ -41,7 +42,7 @@ ADDS = re.compile(r"\s*([0-9a-f]+):\s((?:[0-9a-f]{2} )+)\s+lock incq (0x[0-9a-f]
 FAR = 0x100
 
 
-def additions(program):
+def additions(program: str) -> Iterator[tuple[int, bytes]]:
     """The additions to the word where instructions are issued: of each its offset in the file, and its code."""
     told = subprocess.run(["objdump", "-d", "-F", program], capture_output=True, text=True, check=True).stdout
     function = ""
@@ -53,7 +54,7 @@ def additions(program):
             yield int(adds[1], 16) + shift, bytes.fromhex(adds[2])
 
 
-def without_the_word(program, copy):
+def without_the_word(program: str, copy: Path) -> None:
     """Copies the executable, with nothing in the place of the one addition to the word."""
     found = list(additions(program))
     if len(found) != 1:
@@ -67,10 +68,10 @@ def without_the_word(program, copy):
     copy.chmod(0o755)
 
 
-def seconds(program, budget, processors):
+def seconds(program: str | Path, budget: int, processors: str) -> tuple[float, str]:
     """How long a run takes, and what it prints."""
     begun = time.perf_counter()
-    words = ["taskset", "-c", processors, program, "run", "--budget", str(budget)]
+    words = ["taskset", "-c", processors, str(program), "run", "--budget", str(budget)]
     ran = subprocess.run(words, input=DECK, capture_output=True, text=True, check=False)
     took = time.perf_counter() - begun
     if ran.returncode != RUNNING:
@@ -78,11 +79,11 @@ def seconds(program, budget, processors):
     return took, ran.stdout
 
 
-def race(programs, runs, processors):
+def race(programs: Sequence[str | Path], runs: int, processors: str) -> list[float]:
     """The nanoseconds of an instruction of each program, by the shortest of the runs."""
-    best = {}
+    best: dict[tuple[str | Path, int], float] = {}
     for _ in range(runs):
-        texts = set()
+        texts = set[str]()
         for program in programs:
             for budget in (1, MOST_INSTRUCTIONS):
                 took, text = seconds(program, budget, processors)
@@ -93,7 +94,7 @@ def race(programs, runs, processors):
     return [(best[it, MOST_INSTRUCTIONS] - best[it, 1]) / MOST_INSTRUCTIONS * 1e9 for it in programs]
 
 
-def main():
+def main() -> int:
     words = sys.argv[1:]
     runs, processors = int(words[0]) if words else 10, words[1] if words[1:] else "0"
     program = program_path()

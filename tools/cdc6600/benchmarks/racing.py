@@ -3,6 +3,7 @@
 import subprocess
 import time
 from pathlib import Path
+from typing import Container, Sequence
 
 from cdc6600.shared.program import ROOT
 
@@ -16,7 +17,7 @@ class Failed(Exception):
     """A program that doesn't do what a benchmark needs. Its text is the line for the user."""
 
 
-def plain_program(folder, room):
+def plain_program(folder: str, room: Path) -> str:
     """Builds the plain program of a folder of bench/, by rustc, for the processor that the Rattle kit builds for; its
     path."""
     built = Path(room) / f"plain-{folder}"
@@ -25,7 +26,7 @@ def plain_program(folder, room):
     return str(built)
 
 
-def timed(words, text, printed, statuses=ENDS):
+def timed(words: Sequence[str], text: Path, printed: str | Path, statuses: Container[int] = ENDS) -> float:
     """Runs a command with this file as its input and this one for what it prints; the seconds that it took.
 
     Raises Failed if it ends with another status."""

@@ -16,13 +16,13 @@ from cdc6600.shared.program import program_path
 from .racing import timed
 
 
-def deck():
+def deck() -> str:
     """The deck: each word has another value."""
     words = (f"word {address * 8191:o}" for address in range(MOST_WORDS))
     return "".join(f"{line}\n" for line in (f"core {MOST_WORDS}", *words, "start 0", "end"))
 
 
-def main():
+def main() -> int:
     program = program_path()
     with tempfile.TemporaryDirectory() as room:
         text = Path(room) / "deck"

@@ -15,6 +15,7 @@ the one that tools/build-program builds.
 import sys
 import tempfile
 from pathlib import Path
+from typing import Sequence
 
 from cdc6600.shared.program import program_path
 
@@ -22,7 +23,7 @@ from .make_deck import KINDS, deck, log
 from .racing import Failed, plain_program, timed
 
 
-def race(words, log_text, turns, room):
+def race(words: Sequence[Sequence[str]], log_text: str, turns: int, room: Path) -> list[float]:
     """Lets both programs go through a log by turns; the best time of each."""
     best, dumps = [float("inf")] * 2, [room / "proved.dump", room / "plain.dump"]
     for _ in range(turns):
@@ -33,12 +34,12 @@ def race(words, log_text, turns, room):
     return best
 
 
-def put(what, proved, plain):
+def put(what: str, proved: float, plain: float) -> None:
     """Prints two times in seconds and their ratio."""
     print(f"  {what}: {proved:.4f} s to {plain:.4f} s, {proved / plain:.2f} times", flush=True)
 
 
-def compare(kind, words, turns, room):
+def compare(kind: str, words: Sequence[Sequence[str]], turns: int, room: Path) -> None:
     """Prints how the programs compare on a deck of this kind."""
     (room / "deck").write_bytes(deck(kind))
     empty, whole = race(words, "none", turns, room), race(words, log(kind), turns, room)
@@ -47,7 +48,7 @@ def compare(kind, words, turns, room):
     put("the log alone", *(took - reading for took, reading in zip(whole, empty)))
 
 
-def main():
+def main() -> int:
     turns = int(sys.argv[1]) if sys.argv[1:] else 15
     with tempfile.TemporaryDirectory() as name:
         room = Path(name)

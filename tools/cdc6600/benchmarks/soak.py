@@ -19,6 +19,8 @@ import os
 import signal
 import subprocess
 import sys
+from subprocess import PIPE
+from typing import Mapping, Sequence
 
 from cdc6600.shared.decks import decks, log_of
 from cdc6600.shared.program import Program, Ran, program_path
@@ -29,12 +31,13 @@ from .racing import ENDS
 SECONDS, BUDGET = 60, 2_000
 # The status of a run without enough memory, and what that says.
 STARVED, TOLD = 6, b"cdc6600: E21 out of memory\n"
-ON_ONE_CORE = ("taskset", "-c", "0")
+# The words before the program: none for a run on all cores, and those for one on one core.
+CORES: tuple[tuple[str, ...], ...] = ((), ("taskset", "-c", "0"))
 # The kilobytes of memory that a run may have: the most, the least, and the step between them.
 MOST, LEAST, STEP = 100_000, 8_000, 1_500
 
 
-def limited(memory):
+def limited(memory: int) -> tuple[str, ...]:
     """The words that run a command with so many kilobytes of memory: `sh` sets the bound for what it becomes."""
     return ("sh", "-c", 'ulimit -v "$1" && shift && exec "$@"', "sh", str(memory))
 
@@ -42,21 +45,19 @@ def limited(memory):
 class Soak:
     """The runs: how many there were, how many were refused for want of memory, and whether one had a fault."""
 
-    def __init__(self):
+    def __init__(self) -> None:
         self.program = Program(program_path())
         self.runs, self.refused, self.has_failed = 0, 0, False
 
-    def fault(self, name, what):
-        """Tells a fault of a run."""
+    def fault(self, name: str, what: str) -> None:
         print(f"soak: {name}: {what}", file=sys.stderr, flush=True)
         self.has_failed = True
 
-    def run(self, name, text, before=()):
+    def run(self, name: str, text: bytes, before: Sequence[str] = ()) -> Ran | None:
         """Runs a deck, by the words before the program if there are any; how it ended, or None if it didn't."""
         self.runs += 1
         words = [*before, self.program.path, "run", "--budget", str(BUDGET)]
-        pipes = {"stdin": subprocess.PIPE, "stdout": subprocess.PIPE, "stderr": subprocess.PIPE}
-        with subprocess.Popen(words, start_new_session=True, **pipes) as process:
+        with subprocess.Popen(words, start_new_session=True, stdin=PIPE, stdout=PIPE, stderr=PIPE) as process:
             try:
                 printed, told = process.communicate(text, SECONDS)
             except subprocess.TimeoutExpired:
@@ -67,19 +68,19 @@ class Soak:
             self.fault(name, "a process is left")
         return Ran(process.returncode, printed, told)
 
-    def judge(self, name, text, ran):
+    def judge(self, name: str, text: bytes, ran: Ran) -> None:
         """Tells a fault if a run didn't end as a machine does, or if its log doesn't lead there."""
         if ran.status not in ENDS:
             self.fault(name, f"status {ran.status}: {ran.told.decode(errors='replace')}")
             return
-        log = log_of(ran.printed)
+        log = log_of(ran.printed) or ""
         again = self.program.replay(log, text)
         if again.status != ran.status:
             self.fault(name, f"the replay of {log} ends with another status than {ran.status}")
         if again.printed != ran.printed:
             self.fault(name, f"the replay of {log} prints another dump")
 
-    def judge_starved(self, name, text, ran):
+    def judge_starved(self, name: str, text: bytes, ran: Ran) -> None:
         """As `judge`, or the run was refused for want of memory."""
         if ran.status != STARVED:
             self.judge(name, text, ran)
@@ -90,16 +91,16 @@ class Soak:
         if ran.printed:
             self.fault(name, f"status {STARVED}, and a dump is printed")
 
-    def soak(self, texts, times):
+    def soak(self, texts: Mapping[str, bytes], times: int) -> None:
         """Runs the decks on all cores and on one."""
         for _ in range(times):
             for name, text in texts.items():
-                for before in ((), ON_ONE_CORE):
+                for before in CORES:
                     ran = self.run(name, text, before)
                     if ran:
                         self.judge(name, text, ran)
 
-    def starve(self, texts):
+    def starve(self, texts: Mapping[str, bytes]) -> None:
         """Runs the decks with ever less memory."""
         for name, text in texts.items():
             for memory in range(MOST, LEAST, -STEP):
@@ -108,8 +109,7 @@ class Soak:
                     self.judge_starved(name, text, ran)
 
 
-def is_group(number):
-    """Whether there is a process of a group."""
+def is_group(number: int) -> bool:
     try:
         os.killpg(number, 0)
     except ProcessLookupError:
@@ -117,7 +117,7 @@ def is_group(number):
     return True
 
 
-def main():
+def main() -> int:
     times, soak = int(sys.argv[1]) if sys.argv[1:] else 100, Soak()
     stored = {str(it): it.text for it in decks() if not it.told}
     soak.soak(stored | {kind: deck(kind) for kind in KINDS}, times)

@@ -28,7 +28,9 @@ import sys
 import tempfile
 import time
 from pathlib import Path
+from typing import Mapping, Sequence
 
+from cdc6600.shared.decks import log_of
 from cdc6600.shared.program import program_path
 
 from .make_deck import KINDS, deck
@@ -40,7 +42,7 @@ FORMS = ("run", "yield", "sleep", "replay")
 LOCKS = "syscalls:sys_enter_futex"
 
 
-def arguments():
+def arguments() -> argparse.Namespace:
     """What the command line asks for, with the words that keep a program on the processors."""
     parser = argparse.ArgumentParser(description=__doc__, formatter_class=argparse.RawDescriptionHelpFormatter)
     parser.add_argument("turns", metavar="TURNS", type=int, nargs="?", default=12)
@@ -55,12 +57,12 @@ def arguments():
 class Race:
     """The programs on one deck."""
 
-    def __init__(self, given, kind, room, programs):
+    def __init__(self, given: argparse.Namespace, kind: str, room: Path, programs: Mapping[str, str]) -> None:
         self.given, self.kind, self.programs = given, kind, programs
         self.deck, self.dump = room / "deck", room / "dump"
         self.deck.write_bytes(deck(kind))
 
-    def words(self, form, budget):
+    def words(self, form: str, budget: int) -> list[str]:
         """The words by which a form makes so many instructions."""
         if form == "run":
             return [*self.given.pinned, self.programs["run"], "run", "--budget", str(budget)]
@@ -68,7 +70,7 @@ class Race:
             return [*self.given.pinned, self.programs["run"], "replay", f"E40 I{budget}"]
         return [*self.given.pinned, self.programs["plain"], form, str(budget)]
 
-    def make(self, words):
+    def make(self, words: Sequence[str]) -> tuple[float, int]:
         """Runs it: the seconds that it took, and its switches between threads."""
         with self.deck.open("rb") as deck, self.dump.open("wb") as dump:
             begun = time.perf_counter()
@@ -80,16 +82,16 @@ class Race:
             raise Failed(f"{' '.join(words)} ended with status {process.returncode}")
         return took, used.ru_nvcsw + used.ru_nivcsw
 
-    def replays(self, form):
+    def replays(self, form: str) -> None:
         """Whether the log of the last dump replays to it."""
         printed = self.dump.read_bytes()
-        log = re.search(rb"^LOG (.*)$", printed, re.MULTILINE).group(1).decode()
+        words = [self.programs["run"], "replay", log_of(printed) or ""]
         with self.deck.open("rb") as deck:
-            again = subprocess.run([self.programs["run"], "replay", log], stdin=deck, capture_output=True, check=False)
+            again = subprocess.run(words, stdin=deck, capture_output=True, check=False)
         if again.stdout != printed:
             raise Failed(f"{self.kind}: the log of {form} doesn't replay to its dump")
 
-    def lock_calls(self, form):
+    def lock_calls(self, form: str) -> str:
         """How many calls for a lock an instruction takes, as text."""
         if not shutil.which("perf"):
             return "-"
@@ -99,9 +101,8 @@ class Race:
         counted = re.search(rb"^(\d+),.*futex", ran.stderr, re.MULTILINE)
         return f"{int(counted.group(1)) / self.given.budget:.2f}" if counted else "-"
 
-    def print_times(self):
-        """The race."""
-        short, long, budget = {}, {}, self.given.budget
+    def print_times(self) -> None:
+        short, long, budget = dict[str, tuple[float, int]](), dict[str, tuple[float, int]](), self.given.budget
         for _ in range(self.given.turns):
             for form in FORMS:
                 for best, many in ((short, 1), (long, budget)):
@@ -119,10 +120,10 @@ class Race:
             )
 
 
-def main():
+def main() -> int:
     given = arguments()
-    with tempfile.TemporaryDirectory() as room, contextlib.ExitStack() as others:
-        room = Path(room)
+    with tempfile.TemporaryDirectory() as name, contextlib.ExitStack() as others:
+        room = Path(name)
         programs = {"run": program_path(), "plain": plain_program("running", room)}
         for _ in range(given.busy):
             other = others.enter_context(subprocess.Popen([*given.pinned, sys.executable, "-c", "while True: pass"]))

@@ -27,6 +27,7 @@ import subprocess
 import tempfile
 from collections import defaultdict
 from pathlib import Path
+from typing import Iterable, Iterator, Sequence
 
 from cdc6600.crates.table import Table
 from cdc6600.shared.program import ROOT
@@ -67,38 +68,38 @@ BY_HAND = (
 NAMED = re.compile(r"^\s*(?:pub(?:\(\w+\))? )?(?:enum|struct|trait|type|const) (\w+)", re.MULTILINE)
 
 
-def crates():
-    """The names of the crates."""
+def crates() -> list[str]:
     return list(Table(ROOT).lines)
 
 
-def entries(words, deck):
+def entries(words: str, deck: str) -> list[list[str]]:
     """The entries of functions, with the number of the thread, and the callers of the function that finds the fault."""
     with tempfile.TemporaryDirectory() as folder:
         place = Path(folder)
         (place / "deck").write_text(deck, encoding="utf-8")
         # Its notes for debuggers make some versions of gdb fail; the names of functions are enough.
-        subprocess.run(["strip", "--strip-debug", "-o", place / "program", PROGRAM], check=True)
+        subprocess.run(["strip", "--strip-debug", "-o", str(place / "program"), str(PROGRAM)], check=True)
         environment = dict(
             os.environ, PROGRAM=str(place / "program"), WORDS=words, INPUT=str(place / "deck"),
             ENTRIES=str(place / "entries"), CRATES=" ".join(crates()), FAULT=FAULT,
         )
-        command = ["gdb", "-q", "-batch", "-x", Path(__file__).with_name("entries.py"), "--args", place / "program"]
+        script = str(Path(__file__).with_name("entries.py"))
+        command = ["gdb", "-q", "-batch", "-x", script, "--args", str(place / "program")]
         subprocess.run(command, env=environment, check=True, stdout=subprocess.DEVNULL, stderr=subprocess.DEVNULL)
         return [line.split(" ", 1) for line in (place / "entries").read_text(encoding="utf-8").splitlines()]
 
 
-def spelled(names):
+def spelled(names: Iterable[str]) -> list[str]:
     """Those of the functions that count, each once, in the order in which they were first entered."""
     return list(dict.fromkeys(name for name in names if not LEFT_OUT.search(name)))
 
 
-def first(run, name, start=0):
+def first(run: Sequence[Sequence[str]], name: str, start: int = 0) -> int:
     """The index of the first entry of a function from an index on."""
     return next(index for index in range(start, len(run)) if run[index][1].endswith(name))
 
 
-def word():
+def word() -> list[str]:
     """The way of a `word` line: between two readings of a line, and the loop round them."""
     run = entries("run", DECK.format(code="NO"))
     reads = [index for index, (_, name) in enumerate(run) if name.endswith(READ)]
@@ -106,7 +107,7 @@ def word():
     return spelled(name for _, name in [loop, *run[reads[WORD_LINE - 1]:reads[WORD_LINE]]])
 
 
-def lane(run):
+def lane(run: Sequence[Sequence[str]]) -> list[str]:
     """The way of an issued instruction to its lane, in the thread that issues: one turn of the loop that issues. The
     issue after it, which the budget refuses while the lock is held, doesn't count."""
     start = first(run, STEP)
@@ -117,7 +118,7 @@ def lane(run):
     return spelled(name for it, name in [*run[start:again], *run[released:end + 1]] if it == thread)
 
 
-def stored(run):
+def stored(run: Sequence[Sequence[str]]) -> list[str]:
     """The way of an instruction from its issue until its result is stored: to its lane, and then in its unit."""
     end = first(run, STORED)
     unit = run[end][0]
@@ -125,14 +126,14 @@ def stored(run):
     return spelled([*lane(run), *(name for thread, name in run[start:end] if thread == unit)])
 
 
-def reference(run):
+def reference(run: Sequence[Sequence[str]]) -> list[str]:
     """The way of a reference from its store event until its word is in memory."""
     start = first(run, STORE)
     end = first(run, WRITTEN, start)
     return spelled(name for thread, name in run[start:end + 1] if thread == run[start][0])
 
 
-def fault():
+def fault() -> list[str]:
     """The way of a fault: the function that finds it, its callers, and what is entered afterwards. What finds the
     column of the fault and what writes bytes isn't on this way."""
     run = entries("run", DECK.format(code="NO").replace("word 0\n", "word 8\n"))
@@ -143,7 +144,7 @@ def fault():
     return [name for name in names if name.split("::")[0] in OF_FAULTS]
 
 
-def sources():
+def sources() -> Iterator[tuple[str, Path, str]]:
     """The sources of the crates that aren't tests, with their crate."""
     for crate in crates():
         if not crate.endswith("_tests"):
@@ -152,7 +153,7 @@ def sources():
                     yield crate, path, path.read_text(encoding="utf-8")
 
 
-def by_hand():
+def by_hand() -> list[str]:
     """The places where an error is taken out only to be put in again."""
     return [
         f"{path.relative_to(ROOT)}:{text.count(chr(10), 0, found.start()) + 1}"
@@ -160,21 +161,20 @@ def by_hand():
     ]
 
 
-def named_twice():
+def named_twice() -> list[str]:
     """The types and constants whose name stands in several crates."""
-    places = defaultdict(set)
+    places = defaultdict[str, set[str]](set)
     for crate, _, text in sources():
         for name in NAMED.findall(text):
             places[name].add(crate)
     return [f"{name}: {', '.join(sorted(found))}" for name, found in sorted(places.items()) if len(found) > 1]
 
 
-def main():
-    """Prints the counts."""
+def main() -> int:
     parser = argparse.ArgumentParser(description=__doc__, formatter_class=argparse.RawDescriptionHelpFormatter)
     parser.add_argument("--list", action="store_true", help="print the functions and places too")
     is_listed = parser.parse_args().list
-    subprocess.run([ROOT / "tools/build-program", "--unproved"], check=True)
+    subprocess.run([f"{ROOT}/tools/build-program", "--unproved"], check=True)
     addition = entries("run --budget 1", DECK.format(code="IX3 X1+X2"))
     store = entries("run --budget 1", DECK.format(code="SA6 A0+5"))
     counts = {

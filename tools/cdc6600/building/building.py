@@ -11,13 +11,14 @@ import signal
 import subprocess
 import sys
 import time
-from concurrent.futures import FIRST_COMPLETED, ThreadPoolExecutor, wait
+from concurrent.futures import FIRST_COMPLETED, Future, ThreadPoolExecutor, wait
 from contextlib import contextmanager
 from dataclasses import dataclass
 from pathlib import Path
+from typing import Callable, Iterable, Iterator, Mapping
 
 from cdc6600.crates.kit import checker
-from cdc6600.crates.table import Unreadable
+from cdc6600.crates.table import Table, Unreadable
 from cdc6600.shared.program import ROOT
 
 from . import host
@@ -46,14 +47,14 @@ class Product:
 
     source: str
     ending: str
-    words: tuple = ()
+    words: tuple[str, ...] = ()
 
 
 PROGRAM = Product("main.rt", ".o")
 LIBRARY = Product("lib.rt", ".a", ("--crate-type", "staticlib"))
 
 
-def tell(words):
+def tell(words: str) -> None:
     print(f"cdc6600: {words}", file=sys.stderr, flush=True)
 
 
@@ -61,12 +62,12 @@ class Plan:
     """The crates to prove, lowest first, each with its work in seconds of a processor, and how urgent it is. Those that
     are given make no work."""
 
-    def __init__(self, table, top, given=()):
+    def __init__(self, table: Table, top: str, given: Iterable[str] = ()) -> None:
         self.crates = [*table.below(top), top]
         self.uses = {name: [it for it in table.uses[name] if it in self.crates] for name in self.crates}
         self.work = work_of(table, self.crates)
         self.work.update((name, 0) for name in given)
-        ahead, behind = {}, {}
+        ahead, behind = dict[str, float](), dict[str, float]()
         for name in self.crates:
             ahead[name] = max((ahead[it] + self.work[it] for it in self.uses[name]), default=0)
         for name in reversed(self.crates):
@@ -78,7 +79,7 @@ class Plan:
         self.nice = {name: min(LEAST_URGENT, slack[name]) for name in self.crates}
 
 
-def commit_of(root):
+def commit_of(root: Path) -> str:
     """The commit of a checkout, `unknown` if it has none, with a plus sign if its sources aren't those of the
     commit."""
     git = ["git", "-C", str(root)]
@@ -90,24 +91,24 @@ def commit_of(root):
     return found.stdout.strip() + ("+" if changed.stdout else "")
 
 
-def source_sum(root):
+def source_sum(root: Path) -> bytes:
     """What an executable of a repository is built from, as tools/source-sum prints it."""
     return subprocess.run([SOURCE_SUM, root], stdout=subprocess.PIPE, check=False).stdout
 
 
-def kit_name():
+def kit_name() -> str:
     """The kit's name with the number of its logic."""
     said = subprocess.run([checker().with_name("rt"), "version"], capture_output=True, text=True, check=False)
     return said.stdout.strip() or "an unknown kit"
 
 
-def lines_of(folder):
+def lines_of(folder: Path) -> int:
     """The lines of a crate's code, without its tests."""
     files = (file for file in (folder / "src").rglob("*.rt") if "test" not in file.name)
     return sum(len(file.read_bytes().splitlines()) for file in files)
 
 
-def work_of(table, names):
+def work_of(table: Table, names: Iterable[str]) -> dict[str, float]:
     """The work of each crate: its measured seconds, or about as many if it has none, by its lines."""
     lines = {name: LINES_BEFORE + lines_of(table.folder(name)) for name in names}
     seconds = {name: taken for name, taken in measured(table.root).items() if name in names}
@@ -119,21 +120,22 @@ class Building:
     """Proves the crate at the top and those below it, each into a folder of its own in the room. The libraries that are
     given are proved already."""
 
-    def __init__(self, table, top, product, room, given=None):
+    def __init__(self, table: Table, top: str, product: Product, room: Path,
+                 given: Mapping[str, Path] | None = None) -> None:
         self.table, self.top, self.product, self.room = table, top, product, Path(room)
-        self.kit, self.given, self.seconds = checker().parent.parent, given or {}, {}
+        self.kit, self.given, self.seconds = checker().parent.parent, given or {}, dict[str, float]()
         # The tools that compile the crate at the top.
         self.toolchain = self.kit / "toolchain"
         self.plan, self.proved = Plan(table, top, self.given), set(self.given)
         self.forecast = Forecast(self.plan, host.places(), max(host.free_memory() // host.NEEDED, 1))
 
-    def made(self, name):
+    def made(self, name: str) -> Path:
         """What a crate is built into."""
         if name in self.given:
             return self.given[name]
         return self.room / name / f"{name}{self.product.ending if name == self.top else '.rlib'}"
 
-    def sources(self, name):
+    def sources(self, name: str) -> Path:
         """The folder of a crate's sources. That of the crate that has the version is a copy, in which the commit and
         the kit stand behind the number."""
         folder = self.table.folder(name)
@@ -146,7 +148,7 @@ class Building:
         (copy / VERSION).write_text(re.sub(r'(VERSION: &str = "[0-9.]+)";', built, text), encoding="utf-8")
         return copy
 
-    def words(self, name):
+    def words(self, name: str) -> list[str]:
         """The words by which the checker proves a crate and builds it over the libraries below it."""
         below, folder = self.table.below(name), self.sources(name)
         root = folder / "src" / (self.product.source if name == self.top else "lib.rt")
@@ -161,12 +163,12 @@ class Building:
         found += compiling if name == self.top else ["--statements"]
         return [*found, "-o", str(self.made(name))]
 
-    def jobs(self, name):
+    def jobs(self, name: str) -> int:
         """How many processes a check may use. With several it takes a fourth more of processor time, so only those
         have them for which others wait."""
         return 1 if self.plan.nice[name] else host.places()
 
-    def prove(self, name):
+    def prove(self, name: str) -> None:
         """Proves and builds a crate.
 
         Raises Unproved with the end of what the checker said, where it isn't proved."""
@@ -179,7 +181,7 @@ class Building:
             raise Unproved("\n".join([*lines[-LINES_OF_A_FAULT:], f"cdc6600: {name} isn't proved"]))
         self.seconds[name] = ran.seconds
 
-    def tell(self, name):
+    def tell(self, name: str) -> None:
         """Tells that a crate is proved, and about how long the others will take."""
         self.proved.add(name)
         many, total = len(self.proved), len(self.plan.crates)
@@ -187,9 +189,10 @@ class Building:
         left = "" if many == total else f"; about {minutes} minutes left" if minutes > 1 else "; about a minute left"
         tell(f"{name} is proved, {many} of {total} crates{left}")
 
-    def prove_all(self):
+    def prove_all(self) -> None:
         """Proves each crate once those below it are proved, as many side by side as there is memory for."""
-        left, running = [name for name in self.plan.crates if name not in self.given], {}
+        left = [name for name in self.plan.crates if name not in self.given]
+        running: dict[Future[None], str] = {}
         with ThreadPoolExecutor(len(left)) as pool:
             try:
                 while left or running:
@@ -204,14 +207,14 @@ class Building:
                 stop_all()
                 raise
 
-    def ready(self, left, is_first):
+    def ready(self, left: list[str], is_first: bool) -> list[str]:
         """The crates to begin with now, the most urgent ones first; where memory is short, one if none runs."""
         found = [name for name in left if self.proved.issuperset(self.plan.uses[name])]
         room = max(host.free_memory() // host.NEEDED, 1 if is_first else 0)
         return sorted(found, key=lambda it: self.plan.nice[it])[:room]
 
 
-def put(made, file, begun):
+def put(made: Path, file: Path, begun: float) -> None:
     """Puts what was made where a file is to stand. It gets the time at which it was begun, so that a source that was
     changed meanwhile is newer."""
     file.parent.mkdir(parents=True, exist_ok=True)
@@ -222,7 +225,7 @@ def put(made, file, begun):
 
 
 @contextmanager
-def locked(file):
+def locked(file: Path) -> Iterator[None]:
     """Within it no other call builds the same file. The kernel removes the lock of a call that is killed."""
     file.parent.mkdir(parents=True, exist_ok=True)
     with open(f"{file}.lock", "wb") as lock:
@@ -234,7 +237,7 @@ def locked(file):
         yield
 
 
-def ended(work):
+def ended(work: Callable[[], int]) -> int:
     """Goes through the work of a tool that builds; its status. A signal ends it too, with all that it has started, and
     so does a fault of the system, such as a full disk, with a line."""
     for number in (signal.SIGTERM, signal.SIGHUP, signal.SIGINT):

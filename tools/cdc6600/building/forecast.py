@@ -5,6 +5,12 @@ through as it will be carried out: crates begin when those below them are proved
 this machine is how long the crates that are proved took, compared with how long they should have taken.
 """
 
+from pathlib import Path
+from typing import TYPE_CHECKING, Container, Mapping
+
+if TYPE_CHECKING:
+    from .building import Plan
+
 # The seconds of a processor that each crate took, a line each, from the repository's folder on.
 MEASURED = "tools/cdc6600/building/crate-seconds"
 # A check by several processes takes so much more of processor time.
@@ -21,7 +27,7 @@ FIRST = 5
 RISE = 1.1
 
 
-def measured(root):
+def measured(root: Path) -> dict[str, float]:
     """The measured seconds of each crate by its name, if there are some."""
     file = root / MEASURED
     if not file.is_file():
@@ -33,16 +39,16 @@ def measured(root):
 class Forecast:
     """The estimate for a plan on so many processors, with room in memory for so many crates at once."""
 
-    def __init__(self, plan, processors, room):
+    def __init__(self, plan: "Plan", processors: int, room: int) -> None:
         self.plan, self.processors, self.room = plan, processors, room
         self.durations = {name: ended - begun for name, (begun, ended) in self.go_through(plan.work).items()}
-        self.begun, self.took, self.shown = {}, {}, 0
+        self.begun, self.took, self.shown = dict[str, float](), dict[str, float](), 0
 
-    def begin(self, name, now):
+    def begin(self, name: str, now: float) -> None:
         """Notes when a crate begins."""
         self.begun[name] = now
 
-    def minutes_left(self, name, proved, now):
+    def minutes_left(self, name: str, proved: Container[str], now: float) -> int:
         """About how long it will take, now that a crate is proved."""
         self.took[name] = now - self.begun.pop(name)
         should = sum(self.durations[it] for it in self.took)
@@ -53,16 +59,17 @@ class Forecast:
         self.shown = minutes if len(self.took) <= FIRST else min(minutes, int(RISE * self.shown))
         return self.shown
 
-    def part_left(self, name, pace, now):
+    def part_left(self, name: str, pace: float, now: float) -> float:
         """Which part of a crate's work is left."""
         if name not in self.begun:
             return 1
         should = pace * self.durations[name]
         return max(REST, 1 - (now - self.begun[name]) / should) if should else REST
 
-    def go_through(self, work):
+    def go_through(self, work: Mapping[str, float]) -> dict[str, tuple[float, float]]:
         """Goes through the plan with this work of the crates that aren't proved: when each begins and when it ends."""
-        left, running, begun, times, now = dict(work), [], {}, {}, 0.0
+        left, running, begun, now = dict(work), list[str](), dict[str, float](), 0.0
+        times: dict[str, tuple[float, float]] = {}
         while left:
             ready = [it for it in left if it not in running and not any(used in left for used in self.plan.uses[it])]
             running += sorted(ready, key=lambda it: self.plan.nice[it])[: max(self.room - len(running), 0)]
@@ -77,11 +84,11 @@ class Forecast:
                 times[it] = (begun[it], now)
         return times
 
-    def rates(self, running):
+    def rates(self, running: list[str]) -> dict[str, float]:
         """The work that each crate does in a second. The most urgent ones may use all processors, the others one."""
-        rates, free = {}, self.processors
+        rates, free = dict[str, float](), float(self.processors)
         for it in sorted(running, key=lambda it: self.plan.nice[it]):
-            share = max(min(1 if self.plan.nice[it] else self.processors, free), LEAST)
+            share: float = max(min(1 if self.plan.nice[it] else self.processors, free), LEAST)
             rates[it] = share / MORE if share > 1 else share
             free -= share
         return rates

@@ -8,14 +8,14 @@ NEEDED = 3_500_000_000
 GROUP = Path("/sys/fs/cgroup")
 
 
-def words_of(file):
+def words_of(file: str | Path) -> list[str]:
     try:
         return Path(file).read_text(encoding="utf-8").split()
     except OSError:
         return []
 
 
-def processors():
+def processors() -> int:
     found = len(os.sched_getaffinity(0))
     quota = words_of(GROUP / "cpu.max")
     if len(quota) == 2 and quota[0].isdigit():
@@ -23,7 +23,7 @@ def processors():
     return found
 
 
-def free_memory():
+def free_memory() -> int:
     words = words_of("/proc/meminfo")
     found = [1024 * int(words[words.index("MemAvailable:") + 1])] if "MemAvailable:" in words else []
     limit, held = words_of(GROUP / "memory.max"), words_of(GROUP / "memory.current")
@@ -32,6 +32,6 @@ def free_memory():
     return min(found, default=NEEDED)
 
 
-def places():
+def places() -> int:
     """How many checks may run side by side: one a processor, where memory is free for each, and always one."""
     return max(1, min(processors(), free_memory() // NEEDED))

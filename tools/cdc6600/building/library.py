@@ -9,6 +9,7 @@ import shutil
 import tempfile
 import time
 from pathlib import Path
+from typing import Iterable
 
 from cdc6600.crates.kit import checker
 from cdc6600.crates.table import Table
@@ -32,18 +33,18 @@ TARGETS = (NATIVE, "aarch64-unknown-linux-gnu")
 PARTS = ("src", "specs", "proofs")
 
 
-def newest(table, names):
+def newest(table: Table, names: Iterable[str]) -> float:
     """When the youngest source of these crates was written."""
     files = [file for name in names for part in PARTS for file in (table.folder(name) / part).rglob("*")]
     return max(file.stat().st_mtime for file in [*files, table.root / "crates.txt"])
 
 
-def kept_by_program(table):
+def kept_by_program(table: Table) -> Path:
     """The folder in which tools/build-program keeps the libraries of crates below the program."""
     return table.folder(PROGRAM) / "out/libraries"
 
 
-def keep_libraries(building, sources):
+def keep_libraries(building: Building, sources: bytes) -> None:
     """Keeps the libraries that were built below the program and stand below the crate too, with the sum of their
     sources."""
     folder, table = kept_by_program(building.table), building.table
@@ -58,7 +59,7 @@ def keep_libraries(building, sources):
         tell(f"the libraries of the crates aren't kept for tools/build-library: {fault.strerror}")
 
 
-def left_libraries(table):
+def left_libraries(table: Table) -> dict[str, Path]:
     """The libraries below the crate that `rt ci` has left, if it has left all of them and none is older than a source;
     otherwise those that tools/build-program has left of the sources as they are. They fit only one another."""
     found = {name: table.folder(name) / "out/rlib" / f"{name}.rlib" for name in table.below(CRATE)}
@@ -69,7 +70,7 @@ def left_libraries(table):
     return {name: folder / f"{name}.rlib" for name in found if name in below} if is_current(folder) else {}
 
 
-def archive(building, target):
+def archive(building: Building, target: str) -> Path:
     """Puts the crate's functions, and the kit's calls of the C library if it has them, into one archive; its file."""
     file, calls = building.room / ARCHIVE, [f"{building.kit}/c/liblibc_c.a"] * (target == NATIVE)
     ran = run([f"{building.kit}/toolchain/bin/llvm-ar", "qLcs", str(file), str(building.made(CRATE)), *calls],
@@ -79,7 +80,7 @@ def archive(building, target):
     return file
 
 
-def shared(kit, room, *parts):
+def shared(kit: Path, room: Path, *parts: str | Path) -> Path:
     """Links these parts with the C library into a shared one; its file."""
     words = [f"{kit}/toolchain/bin/ld.lld", "-shared", f"--soname={SONAME}", f"--version-script={EXPORTED}",
              "--gc-sections", *map(str, parts), f"{kit}/toolchain/lib/libc.so.6", "-o", str(room / SHARED)]
@@ -89,7 +90,7 @@ def shared(kit, room, *parts):
     return room / SHARED
 
 
-def prove(table, target, room, folder):
+def prove(table: Table, target: str, room: Path, folder: Path) -> None:
     """Proves the crate, and keeps its archive and its bitcode in a folder."""
     begun, bitcode = time.time(), room / BITCODE
     words = ("--target", target) if target != NATIVE else ()
@@ -101,7 +102,7 @@ def prove(table, target, room, folder):
     put(archive(building, target), folder / ARCHIVE, begun)
 
 
-def keep_shared(folder, sources):
+def keep_shared(folder: Path, sources: bytes) -> None:
     """Keeps the shared library that is linked of an archive, with the sum of the sources of both."""
     archived, file = folder / ARCHIVE, folder / SHARED
     if not file.is_file() or file.stat().st_mtime < archived.stat().st_mtime:
@@ -111,7 +112,7 @@ def keep_shared(folder, sources):
     file.with_name(f"{SHARED}.sources").write_bytes(sources)
 
 
-def kept(target=NATIVE):
+def kept(target: str = NATIVE) -> Path:
     """The folder with the archive, the shared library and the bitcode of the sources as they are. If they are of
     others, or older, the crate is proved.
 

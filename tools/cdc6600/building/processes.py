@@ -5,6 +5,8 @@ import signal
 import subprocess
 import threading
 from dataclasses import dataclass
+from pathlib import Path
+from typing import TextIO
 
 from cdc6600.crates.table import Unreadable
 
@@ -22,23 +24,23 @@ class Running:
     """The commands that run, each with the processes that it started, so that all end together, and no new one
     begins."""
 
-    def __init__(self):
-        self.lock, self.children, self.is_ended = threading.Lock(), set(), False
+    def __init__(self) -> None:
+        self.lock, self.children, self.is_ended = threading.Lock(), set[subprocess.Popen[bytes]](), False
 
-    def start(self, words, folder, said):
+    def start(self, words: list[str], folder: Path, said: TextIO) -> subprocess.Popen[bytes]:
         with self.lock:
             if self.is_ended:
                 raise Unreadable("the run was ended")
-            streams = {"stdin": subprocess.DEVNULL, "stdout": said, "stderr": subprocess.STDOUT}
-            child = subprocess.Popen(words, cwd=folder, start_new_session=True, **streams)
+            child = subprocess.Popen(words, cwd=folder, start_new_session=True, stdin=subprocess.DEVNULL, stdout=said,
+                                     stderr=subprocess.STDOUT)
             self.children.add(child)
             return child
 
-    def forget(self, child):
+    def forget(self, child: subprocess.Popen[bytes]) -> None:
         with self.lock:
             self.children.discard(child)
 
-    def end(self):
+    def end(self) -> None:
         with self.lock:
             self.is_ended = True
             for child in self.children:
@@ -48,7 +50,7 @@ class Running:
 RUNNING = Running()
 
 
-def run(words, folder):
+def run(words: list[str], folder: Path) -> Ran:
     """Runs a command to its end, with what it says in the folder's file `said`."""
     with open(folder / "said", "w+", errors="replace", encoding="utf-8") as said:
         child = RUNNING.start(words, folder, said)
@@ -61,6 +63,6 @@ def run(words, folder):
         return Ran(child.returncode, said.read(), used.ru_utime + used.ru_stime)
 
 
-def stop_all():
+def stop_all() -> None:
     """Ends the commands that this process started."""
     RUNNING.end()

@@ -11,6 +11,7 @@ The status is 0, or 1 if the source has faults, or 2 if it can't be read or the 
 """
 
 import sys
+from argparse import Namespace
 
 from cdc6600.assembling.output import deck_of, listing_of
 from cdc6600.assembling.sources import Refused, read_source
@@ -19,14 +20,14 @@ from cdc6600.comparing.faults import ended
 from cdc6600.shared.ending import Parser, printable
 
 
-def arguments():
+def arguments() -> Namespace:
     parser = Parser(__doc__)
     parser.add_argument("--listing", action="store_true", help="print addresses, words and source side by side")
     parser.add_argument("source", metavar="FILE", help="a file with a source program, or - for standard input")
     return parser.parse_args()
 
 
-def work():
+def work() -> int:
     given = arguments()
     is_standard = given.source == STANDARD_INPUT
     text = standard_input() if is_standard else bytes_of(given.source)
@@ -43,5 +44,5 @@ def work():
     return 0
 
 
-def main():
+def main() -> int:
     return ended("tools/assemble", work)

@@ -37,7 +37,7 @@ BENCHMARKS = {
 HELP = ("-h", "--help")
 
 
-def main():
+def main() -> int:
     words = sys.argv[1:]
     if words and words[0] in HELP:
         rows = [f"  {name:<14} {said}" for name, said in BENCHMARKS.items()]
@@ -48,6 +48,6 @@ def main():
         return 2
     module = import_module(f"cdc6600.benchmarks.{words[0].replace('-', '_')}")
     if words[1:] in ([it] for it in HELP):
-        return shown("tools/bench", module.__doc__.strip())
+        return shown("tools/bench", (module.__doc__ or "").strip())
     sys.argv = [f"tools/bench {words[0]}", *words[1:]]
-    return module.main()
+    return int(module.main())

@@ -14,17 +14,19 @@ import itertools
 import re
 import sys
 from pathlib import Path
+from typing import Sequence
 
+from cdc6600.asking.states import State
 from cdc6600.drawing.following import Fault, Following, Session, text_of
 from cdc6600.drawing.listing import listing_of
 from cdc6600.drawing.retracing import retraced
 from cdc6600.drawing.values import value_lines
 from cdc6600.shared.decks import session
-from cdc6600.shared.ending import Parser, ended, printable
+from cdc6600.shared.ending import Parser, ended, printable, set_errors
 from cdc6600.shared.program import Program
 
 
-def events(text):
+def events(text: str) -> list[range]:
     """The numbers that a list of numbers and spans has, from 1 on."""
     if not re.fullmatch(r"[1-9]\d{0,8}(-[1-9]\d{0,8})?(,[1-9]\d{0,8}(-[1-9]\d{0,8})?)*", text):
         raise argparse.ArgumentTypeError(f"{text} has another form than 3-11,14")
@@ -32,7 +34,7 @@ def events(text):
     return [range(int(first), int(last or first) + 1) for first, _, last in spans]
 
 
-def arguments():
+def arguments() -> argparse.Namespace:
     parser = Parser(__doc__)
     parser.add_argument("--values", action="store_true", help="print the values after each event")
     parser.add_argument("--source", metavar="FILE", help="the source program of the deck, whose lines are printed too")
@@ -42,7 +44,7 @@ def arguments():
     return parser.parse_args()
 
 
-def session_of(name):
+def session_of(name: str) -> Session:
     """The session of decks/sessions that has this name, or else the one in the file.
 
     Raises Fault if there is neither."""
@@ -54,26 +56,26 @@ def session_of(name):
     return Session(name, text_of(name))
 
 
-def source_lines(following, states, file):
+def source_lines(following: Following, states: Sequence[State], file: str) -> list[str]:
     """The line of the source program for each event of a session: that of an issue, and else nothing."""
     listing = listing_of(file, following.session)
     is_made = [event == "issue" and not following.is_refused(n) for n, event in enumerate(following.session.events)]
     return [listing.next_text(state) if made else "" for made, state in zip(is_made, states)]
 
 
-def blocks_of_values(states):
+def blocks_of_values(states: Sequence[State]) -> list[str]:
     """The lines of the values after each event of a session, a block for each."""
     values = [state.values for state in states]
     return ["".join(f"  {line}\n" for line in value_lines(*pair)) for pair in zip(values[1:], values)]
 
 
-def work():
+def work() -> int:
     given, program = arguments(), Program()
-    sys.stdout.reconfigure(errors="backslashreplace")
+    set_errors(sys.stdout, "backslashreplace")
     it = session_of(given.name)
     following = Following(program, it, None, None)
     following.check_schedule()
-    states = []
+    states: list[State] = []
     if given.values or given.source:
         following.follow()
         states = retraced(following).states
@@ -92,5 +94,5 @@ def work():
     return ran.status
 
 
-def main():
+def main() -> int:
     return ended("tools/beside", work, Fault)

@@ -33,7 +33,7 @@ from cdc6600.module import unproved
 from cdc6600.shared.program import ROOT
 
 
-def arguments():
+def arguments() -> argparse.Namespace:
     parser = argparse.ArgumentParser(description=__doc__, formatter_class=argparse.RawDescriptionHelpFormatter)
     parser.add_argument("--unproved", action="store_true", help="build the shared library without its proof")
     parser.add_argument("--target", default=NATIVE, metavar="TARGET", help=" or ".join(TARGETS))
@@ -41,7 +41,7 @@ def arguments():
     return parser.parse_args()
 
 
-def put_unproved(file):
+def put_unproved(file: Path) -> None:
     """Builds the shared library of the sources without their proof."""
     tell("UNPROVED: the library is built from the sources without their proof, which takes one or two minutes")
     with locked(file), tempfile.TemporaryDirectory(prefix="cdc6600-") as room:
@@ -50,7 +50,7 @@ def put_unproved(file):
         file.with_name(f"{file.name}.sources").write_bytes(sources)
 
 
-def work():
+def work() -> int:
     given = arguments()
     if given.target not in TARGETS:
         print(f"{sys.argv[0]}: the target {given.target} isn't {' or '.join(TARGETS)}", file=sys.stderr)
@@ -65,5 +65,5 @@ def work():
     return 0
 
 
-def main():
+def main() -> int:
     return ended(work)

@@ -35,7 +35,7 @@ from cdc6600.module.module import LOWERING, Making, marked
 from cdc6600.shared.program import ROOT
 
 
-def unproved_modules():
+def unproved_modules() -> dict[str, bytes | None]:
     """The modules of the sources without their proof, by their names."""
     tell("UNPROVED: the module is built from the sources without their proof, which takes a minute or two")
     kit = checker().parent.parent
@@ -47,7 +47,7 @@ def unproved_modules():
     return {WIDE: marked(wide), NARROW: narrow and marked(narrow)}
 
 
-def work():
+def work() -> int:
     parser = argparse.ArgumentParser(description=__doc__, formatter_class=argparse.RawDescriptionHelpFormatter)
     parser.add_argument("--unproved", action="store_true", help="build it without its proof")
     parser.add_argument("folder", type=Path, metavar="FOLDER", help="where the files go")
@@ -63,5 +63,5 @@ def work():
     return 0
 
 
-def main():
+def main() -> int:
     return ended(work)

@@ -42,7 +42,7 @@ WEIGHTS_HEAD = """\
 """
 
 
-def linked(building, file):
+def linked(building: Building, file: Path) -> Path:
     """Links the program with the kit's few calls of the system, into a file."""
     libraries = [f"{building.kit}/c/libos_c.a", f"{building.kit}/c/liblibc_c.a"]
     words = [f"{building.kit}/bin/rattle-link", "--target", TARGET, "--toolchain", f"{building.kit}/toolchain"]
@@ -52,14 +52,14 @@ def linked(building, file):
     return file
 
 
-def write_weights(building):
+def write_weights(building: Building) -> None:
     """Writes the seconds of a processor that each crate took, or would have taken in one process."""
     took = {name: seconds / (MORE if building.jobs(name) > 1 else 1) for name, seconds in building.seconds.items()}
     rows = [f"{name} {took[name]:.0f}\n" for name in building.plan.crates]
     (building.table.root / MEASURED).write_text("".join([WEIGHTS_HEAD, *rows]), encoding="utf-8")
 
 
-def made(given, root, room, sources):
+def made(given: argparse.Namespace, root: Path, room: Path, sources: bytes) -> Path:
     """Builds the executable of these sources in a folder; its file."""
     table = Table(root)
     if given.unproved:
@@ -74,7 +74,7 @@ def made(given, root, room, sources):
     return file
 
 
-def arguments():
+def arguments() -> argparse.Namespace:
     parser = argparse.ArgumentParser(description=__doc__, formatter_class=argparse.RawDescriptionHelpFormatter)
     parser.add_argument("--unproved", action="store_true", help="build it without its proof, as FILE.unproved")
     parser.add_argument("--weights", action="store_true", help=f"build it in any case, and write {MEASURED}")
@@ -84,15 +84,15 @@ def arguments():
     return parser.parse_args()
 
 
-def work():
+def work() -> int:
     given = arguments()
     root = given.root.resolve()
     file = given.file or root / f"crates/{given.program}/out/{given.program}"
     file = file.with_name(f"{file.name}{UNPROVED * given.unproved}")
     sources = file.with_name(f"{file.name}.sources")
 
-    def is_built():
-        words = [SOURCE_SUM, "--of", sources.absolute(), root]
+    def is_built() -> bool:
+        words = [str(SOURCE_SUM), "--of", str(sources.absolute()), str(root)]
         return file.is_file() and not given.weights and not subprocess.run(words, check=False).returncode
 
     # Many calls at once that have nothing to build needn't wait for each other.
@@ -110,5 +110,5 @@ def work():
     return 0
 
 
-def main():
+def main() -> int:
     return ended(work)

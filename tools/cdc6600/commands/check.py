@@ -17,35 +17,30 @@ Exit status:
   2    the command line is refused
 """
 
-import ast
 import os
 import signal
 import subprocess
 import sys
 import textwrap
 from importlib import import_module
+from typing import Sequence
 
 from cdc6600.asking.library import KEPT, library_path
 from cdc6600.checks.debian import python_with, require
 from cdc6600.gate.parts import ASKING, NAMES, SHARED_OUT, called, command, file_of, is_test, module
+from cdc6600.generating.checks import docstring_of
 from cdc6600.shared.ending import shown
 from cdc6600.shared.program import ROOT, program_path
 
 HELP = ("-h", "--help")
 
 
-def help_text():
-    """What --help prints."""
+def help_text() -> str:
     listed = textwrap.fill(" ".join(NAMES), 118, initial_indent="  ", subsequent_indent="  ")
     return f"{__doc__.strip()}\n\nThe checks:\n{listed}"
 
 
-def text_of(name):
-    """What a check says of itself. It isn't imported for that, since some checks look for the program then."""
-    return ast.get_docstring(ast.parse((ROOT / file_of(name)).read_text(encoding="utf-8")))
-
-
-def run_test(name, words):
+def run_test(name: str, words: Sequence[str]) -> int:
     """Runs a check by pytest, in several processes if it takes long; its status. Those that failed are kept by the name
     of the check, for --lf. The program is built before if it has to be."""
     program_path()
@@ -56,7 +51,7 @@ def run_test(name, words):
     return 1 if ran.returncode else 0
 
 
-def run_one(name, words):
+def run_one(name: str, words: Sequence[str]) -> int:
     """Runs a check; its status. A command that a shell starts in the background ignores interrupts, and so would the
     commands that some checks interrupt."""
     signal.signal(signal.SIGINT, signal.default_int_handler)
@@ -65,15 +60,15 @@ def run_one(name, words):
     if name in ASKING and library_path() == KEPT:
         # So none of the tools that the check calls has to look at the sources.
         os.environ["CDC6600_LIBRARY"] = str(KEPT.parent)
-    return run_test(name, words) if is_test(name) else import_module(module(name)).main()
+    return run_test(name, words) if is_test(name) else int(import_module(module(name)).main())
 
 
-def run_all(names):
+def run_all(names: Sequence[str]) -> int:
     """Runs checks one after another, each in a process of its own; the status of all."""
     return 1 if any([subprocess.run(command(name), cwd=ROOT, check=False).returncode for name in names]) else 0
 
 
-def main():
+def main() -> int:
     words = sys.argv[1:]
     if words and words[0] in HELP:
         return shown("tools/check", help_text())
@@ -82,5 +77,6 @@ def main():
         print(f"tools/check: {told}; tools/check --help lists them", file=sys.stderr)
         return 2
     if words[1:] in ([it] for it in HELP):
-        return shown("tools/check", text_of(words[0]))
+        # The check isn't imported for that, since some checks look for the program then.
+        return shown("tools/check", docstring_of(ROOT / file_of(words[0])))
     return run_all(words) if len(words) > 1 and set(words).issubset(NAMES) else run_one(words[0], words[1:])

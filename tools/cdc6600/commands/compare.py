@@ -17,6 +17,7 @@ name the program to ask.
 """
 
 import tempfile
+from argparse import Namespace
 from pathlib import Path
 
 from cdc6600.comparing.arguments import MORE, SECONDS, bytes_of, count, deck_of, seconds, slope
@@ -30,7 +31,7 @@ from cdc6600.shared.ending import Parser, printable, tell
 from cdc6600.shared.writing import why_not_written
 
 
-def arguments():
+def arguments() -> Namespace:
     parser = Parser(__doc__)
     parser.add_argument("--every", metavar="N", type=count, help="compare after each N steps too, not only at the end")
     parser.add_argument("--seconds", metavar="S", type=seconds, default=SECONDS, help="how long a call may take")
@@ -42,8 +43,7 @@ def arguments():
     return parser.parse_args()
 
 
-def compared(given, folder):
-    """The comparison that the arguments ask for."""
+def compared(given: Namespace, folder: str) -> Comparison:
     proved, text = Proved(), deck_of(given.deck)
     emulator, deck = Emulator(given.command, given.seconds, given.more), Given(proved, given.deck, text)
     why_not = given.save and why_not_written(given.save, lambda file: bytes_of(file) == deck.text)
@@ -53,7 +53,7 @@ def compared(given, folder):
     return Comparison(Replayed(proved, deck, log, Path(given.save or f"{folder}/deck")), emulator)
 
 
-def work():
+def work() -> int:
     given = arguments()
     with tempfile.TemporaryDirectory() as folder:
         comparison = compared(given, folder)
@@ -65,12 +65,12 @@ def work():
         name = printable(given.deck)
         print(f"{name}: the dumps agree after all {len(comparison.steps)} steps of the log{on_the_way}")
         return 0
-    if found.outcome.failure:
+    if report.found.outcome.failure:
         tell("tools/compare", f"{given.deck}: {report.line}")
     else:
         print("\n".join(map(printable, report.lines)))
     return 1
 
 
-def main():
+def main() -> int:
     return ended("tools/compare", work)

@@ -7,21 +7,22 @@ tools/install installs the scripts for all three shells, where these look for th
 """
 
 import sys
+from argparse import Namespace
 
 from cdc6600.installing.completions import FILES, script_file
 from cdc6600.shared.ending import Parser, ended
 
 
-def arguments():
+def arguments() -> Namespace:
     parser = Parser(__doc__)
     parser.add_argument("shell", metavar="SHELL", choices=FILES, help="bash, zsh or fish")
     return parser.parse_args()
 
 
-def work():
+def work() -> int:
     sys.stdout.write(script_file(arguments().shell).read_text(encoding="utf-8"))
     return 0
 
 
-def main():
+def main() -> int:
     return ended("tools/completions", work)

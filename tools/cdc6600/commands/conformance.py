@@ -23,6 +23,7 @@ nothing differs but COMMAND is too slow on some deck. CDC6600 may name the progr
 
 import tempfile
 import time
+from argparse import Namespace
 from pathlib import Path
 
 from cdc6600.comparing.arguments import MORE, SECONDS, count, jobs, number, seconds, seed, slope
@@ -32,13 +33,13 @@ from cdc6600.comparing.faults import Failure, ended
 from cdc6600.comparing.proved import Proved
 from cdc6600.comparing.results import SOME_DIFFER, Results
 from cdc6600.comparing.running import Progress, Suite
-from cdc6600.comparing.suites import drawn_cases, stored_cases
+from cdc6600.comparing.suites import DrawnCase, StoredCase, drawn_cases, stored_cases
 from cdc6600.shared.ending import Parser, printable, tell
 
 RANDOM = 20
 
 
-def arguments():
+def arguments() -> Namespace:
     parser = Parser(__doc__)
     add = parser.add_argument
     add("--random", metavar="N", type=number, default=RANDOM, help=f"how many drawn decks, or {RANDOM}")
@@ -60,12 +61,12 @@ def arguments():
     return given
 
 
-def cases_of(given):
+def cases_of(given: Namespace) -> tuple[list[StoredCase], list[DrawnCase]]:
     """The stored decks and the drawn ones that the arguments ask for."""
     return stored_cases(), drawn_cases(range(given.first, given.first + given.random))
 
 
-def results_of(given, folder):
+def results_of(given: Namespace, folder: Path) -> Results:
     """What comes of the emulator on all decks.
 
     Raises Failure where it prints no dump of a booted machine."""
@@ -73,13 +74,14 @@ def results_of(given, folder):
     stored, drawn = cases_of(given)
     suite = Suite(emulator, folder, given.every, given.jobs)
     suite.check(stored[0])
-    results = suite.results(stored + drawn)
+    results = suite.results([*stored, *drawn])
     return Results(results, len(stored), emulator.calls, time.monotonic() - begun)
 
 
-def print_coverage(given):
+def print_coverage(given: Namespace) -> None:
     """Prints how many decks show each instruction and each edge."""
-    cases, proved, progress, shown = sum(cases_of(given), []), Proved(), Progress(), []
+    stored, drawn = cases_of(given)
+    cases, proved, progress, shown = [*stored, *drawn], Proved(), Progress(), []
     for at, case in enumerate(cases, 1):
         progress.show(f"deck {at} of {len(cases)}")
         shown.append(shown_by(case, proved))
@@ -88,7 +90,7 @@ def print_coverage(given):
     print(coverage.json if given.json else "\n".join(coverage.lines))
 
 
-def work():
+def work() -> int:
     given = arguments()
     if given.coverage:
         print_coverage(given)
@@ -98,7 +100,7 @@ def work():
         open(given.junit, "ab").close()
     with tempfile.TemporaryDirectory() as folder:
         try:
-            results = results_of(given, folder)
+            results = results_of(given, Path(folder))
         except Failure as failure:
             tell("tools/conformance", failure)
             return SOME_DIFFER
@@ -108,5 +110,5 @@ def work():
     return results.status
 
 
-def main():
+def main() -> int:
     return ended("tools/conformance", work)

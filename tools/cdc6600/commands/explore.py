@@ -19,7 +19,7 @@ from pathlib import Path
 
 from cdc6600.comparing.arguments import number
 from cdc6600.drawing.following import Fault, Session, text_of
-from cdc6600.shared.ending import Parser, ended, printable
+from cdc6600.shared.ending import Parser, ended, printable, set_errors
 from cdc6600.shared.program import Program
 from cdc6600.timing.confirming import Confirmation
 from cdc6600.timing.exploring import Exploration
@@ -31,14 +31,13 @@ from cdc6600.timing.times import read_times
 STATES, SESSIONS, BUDGET, MOST = 20_000, 500, 1000, 1_000_000
 
 
-def count(word):
-    """A number of states, sessions or instructions."""
+def count(word: str) -> int:
     if not 0 < number(word, 8) <= MOST:
         raise argparse.ArgumentTypeError(f"{word} is no number from 1 to {MOST}")
     return int(word)
 
 
-def arguments():
+def arguments() -> argparse.Namespace:
     parser = Parser(__doc__)
     form = parser.add_mutually_exclusive_group()
     form.add_argument("--html", action="store_true", help="write a page with the graph of states")
@@ -56,7 +55,7 @@ def arguments():
     return parser.parse_args()
 
 
-def work():
+def work() -> int:
     given, program = arguments(), Program()
     session, times = Session(given.deck, text_of(given.deck)), read_times(given.times)
     check_deck(program, session)
@@ -68,13 +67,12 @@ def work():
         return 0
     lines = report(exploration, Confirmation(program, session, exploration, given.sessions).run())
     if given.html:
-        if sys.stdout is not None:
-            sys.stdout.reconfigure(encoding="utf-8", errors="replace")
+        set_errors(sys.stdout, "replace", "utf-8")
         put(Graph(exploration, printable(Path(given.deck).stem), lines).text())
     else:
         put("".join(f"{line}\n" for line in lines))
     return 0
 
 
-def main():
+def main() -> int:
     return ended("tools/explore", work, Fault)

@@ -6,8 +6,10 @@ a column for each minor cycle. Only pages of this tool are written over.
 The status is 0, or 1 for bad input, or 2 if the command line is refused. CDC6600 may name the program to ask.
 """
 
+from argparse import Namespace
 from dataclasses import dataclass
 from pathlib import Path
+from typing import Mapping, Sequence
 
 from cdc6600.drawing.following import Fault, Following, Session, text_of
 from cdc6600.drawing.forms import check_columns
@@ -25,7 +27,7 @@ from cdc6600.timing.times import Times, read_times
 INDEX = "index"
 
 
-def arguments():
+def arguments() -> Namespace:
     parser = Parser(__doc__)
     parser.add_argument("folder", metavar="FOLDER", help="where the pages are written; it is made if it isn't there")
     parser.add_argument("files", metavar="SESSION", nargs="*", default=[],
@@ -35,13 +37,12 @@ def arguments():
     return parser.parse_args()
 
 
-def is_page(file):
-    """Whether a file is a page of this tool."""
+def is_page(file: str | Path) -> bool:
     text = read_file(file)
     return any(mark.encode() in text for mark in (NAVIGATION, TITLE))
 
 
-def write(folder, pages):
+def write(folder: Path, pages: Mapping[str, str]) -> None:
     """Writes pages, by their names. None is written if one of them would be written over another file."""
     try:
         folder.mkdir(parents=True, exist_ok=True)
@@ -65,8 +66,7 @@ class Shown:
     times: Times | None = None
 
 
-def followed(program, file, text):
-    """A session that is followed to its end."""
+def followed(program: Program, file: str, text: str) -> Following:
     session = Session(file, text)
     check_columns(file, len(session.events), "events")
     following = Following(program, session, None, None)
@@ -74,14 +74,13 @@ def followed(program, file, text):
     return following
 
 
-def stored(program):
-    """The sessions of decks/sessions."""
+def stored(program: Program) -> list[Shown]:
     says = shown_by_sessions()
     return [Shown(it.name, says.get(it.name, ""), followed(program, str(it), it.text.decode("latin-1")))
             for it in sessions()]
 
 
-def named(program, file, times):
+def named(program: Program, file: str, times: Times) -> Shown:
     """The session in a file, or the one that a deck in a file is scheduled to."""
     session = Session(file, text_of(file))
     if session.events:
@@ -94,7 +93,7 @@ def named(program, file, times):
     return Shown(Path(file).stem, f"`{Path(file).name}`, scheduled by `tools/schedule`", following, times)
 
 
-def check_names(files):
+def check_names(files: Sequence[str]) -> None:
     """Raises Fault where two files would have one page, or a page that leads to the others."""
     names = [Path(file).stem for file in files]
     for at, name in enumerate(names):
@@ -102,7 +101,7 @@ def check_names(files):
             raise Fault(files[at], f"another page is {name}.html")
 
 
-def work():
+def work() -> int:
     given, program = arguments(), Program()
     check_names(given.files)
     folder, times = Path(given.folder), read_times(given.times)
@@ -115,5 +114,5 @@ def work():
     return 0
 
 
-def main():
+def main() -> int:
     return ended("tools/gallery", work, Fault)

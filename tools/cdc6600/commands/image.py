@@ -18,6 +18,7 @@ The status is 0, or 1 for bad input, or 2 if the command line is refused.
 import argparse
 import re
 import sys
+from typing import Iterator
 
 from cdc6600.assembling.display_code import SETS, text_of
 from cdc6600.limits import MOST_WORDS
@@ -37,14 +38,13 @@ class Fault(Exception):
     """What is wrong with the input or the output. Its text is the line for the user, without the name of the file."""
 
 
-def address(text):
-    """An address, in octal digits."""
+def address(text: str) -> int:
     if not re.fullmatch("[0-7]{1,6}", text):
         raise argparse.ArgumentTypeError(f"{text} is no address of 1 to 6 octal digits")
     return int(text, 8)
 
 
-def arguments():
+def arguments() -> argparse.Namespace:
     parser = Parser(__doc__)
     parser.add_argument("--at", metavar="A", type=address,
                         help="with unpack, the address of the first word, in octal; 0 by default")
@@ -59,7 +59,7 @@ def arguments():
     return given
 
 
-def content_of(file, most):
+def content_of(file: str, most: int) -> bytes:
     """What a file or standard input has, up to a number of bytes.
 
     Raises Fault if it can't be read or has more."""
@@ -72,7 +72,7 @@ def content_of(file, most):
         raise Fault(fault.strerror) from None
 
 
-def words_of(image):
+def words_of(image: bytes) -> list[str]:
     """The words of an image, each in its octal digits.
 
     Raises Fault if it isn't a whole number of words."""
@@ -89,7 +89,7 @@ def words_of(image):
     return [digits[DIGITS * at : DIGITS * (at + 1)] for at in range(count)]
 
 
-def listed(text):
+def listed(text: str) -> Iterator[tuple[int, int, str]]:
     """The address and the word, in its digits, of each line of a listing.
 
     Raises Fault for a line that is none."""
@@ -98,18 +98,18 @@ def listed(text):
         found = LINE.fullmatch(line.removesuffix("\r"))
         groups = found[2].split() if found else []
         digits = "".join(groups)
-        if not (len(groups) == 1 and len(digits) <= DIGITS or len(digits) == DIGITS):
+        if not found or len(digits) > DIGITS or len(groups) > 1 and len(digits) < DIGITS:
             raise Fault(f"line {number}: '{line[:LONGEST]}' is no address with a word of {DIGITS} octal digits")
         if number > MOST_WORDS:
             raise Fault(f"line {number}: more than {MOST_WORDS} words")
         yield number, int(found[1], 8), digits.zfill(DIGITS)
 
 
-def packed(text):
+def packed(text: str) -> bytes:
     """The image of a listing.
 
     Raises Fault if a word is missing, or has two values."""
-    words = {}
+    words: dict[int, str] = {}
     for number, at, word in listed(text):
         if words.setdefault(at, word) != word:
             raise Fault(f"line {number}: word {at:06o} is {word}, and above it is {words[at]}")
@@ -126,7 +126,7 @@ def packed(text):
     return image[: (BITS * len(words) + 7) // 8]
 
 
-def check_output(action):
+def check_output(action: str) -> None:
     """Raises Fault if standard output can't take what an action writes."""
     if sys.stdout is None:
         raise Fault("standard output is closed")
@@ -134,8 +134,7 @@ def check_output(action):
         raise Fault("an image isn't written to a terminal")
 
 
-def convert(given):
-    """Does what is asked for."""
+def convert(given: argparse.Namespace) -> None:
     check_output(given.action)
     if given.action == UNPACK:
         words, first = words_of(content_of(given.file, MOST_BYTES)), given.at or 0
@@ -152,7 +151,7 @@ def convert(given):
         print(f"{at:06o} {word} {text_of(word, characters)}".rstrip(" "))
 
 
-def work():
+def work() -> int:
     given = arguments()
     try:
         convert(given)
@@ -162,5 +161,5 @@ def work():
     return 0
 
 
-def main():
+def main() -> int:
     return ended("tools/image", work, Fault)

@@ -36,6 +36,7 @@ import subprocess
 import sys
 from functools import cache
 from pathlib import Path
+from typing import Container, Iterable, Iterator
 
 from cdc6600.building.library import ARCHIVE, SHARED
 from cdc6600.installing.archive import archive, is_archive
@@ -101,7 +102,7 @@ exec "$(dirname "$(readlink -f "$0")")/../../../%s" "$@"
 """
 
 
-def arguments():
+def arguments() -> argparse.Namespace:
     parser = argparse.ArgumentParser(description=__doc__, formatter_class=argparse.RawDescriptionHelpFormatter)
     parser.add_argument("--uninstall", action="store_true", help="remove what was installed there")
     parser.add_argument("--without", metavar="PART", action="append", choices=PARTS, default=[],
@@ -117,7 +118,7 @@ def arguments():
     return given
 
 
-def executable():
+def executable() -> bytes:
     """The bytes of the executable that CDC6600 names, or of the one that tools/build-program builds. One without its
     proof is installed only if it is named."""
     named = named_program()
@@ -130,7 +131,7 @@ def executable():
 
 
 @cache
-def library():
+def library() -> Path:
     """The folder of the library that CDC6600_LIBRARY names, or of the one that tools/build-library builds."""
     named = os.environ.get("CDC6600_LIBRARY")
     if not named and subprocess.run([ROOT / "tools/build-library", EMBEDDING / "out"], check=False).returncode:
@@ -138,7 +139,7 @@ def library():
     return Path(named or EMBEDDING / "out")
 
 
-def library_pieces(prefix):
+def library_pieces(prefix: Path | None) -> Iterator[Piece]:
     """The library with its header, and what pkg-config says of it below this prefix."""
     folder = library()
     header = (folder / "cdc6600.h").read_text(encoding="utf-8")
@@ -153,7 +154,7 @@ def library_pieces(prefix):
     yield from documents("crates/embedding/examples/*.*", "crates/embedding/javascript/*.*")
 
 
-def documents(*patterns):
+def documents(*patterns: str) -> Iterator[Piece]:
     """Files of the repository, to stand as they stand here."""
     for pattern in patterns:
         for file in sorted(ROOT.glob(pattern)):
@@ -161,7 +162,7 @@ def documents(*patterns):
             yield Piece(f"{DOCUMENTS}/{file.relative_to(ROOT)}", file.read_bytes(), mode)
 
 
-def tool_pieces():
+def tool_pieces() -> Iterator[Piece]:
     """The tools beside what they read, a command for each, and the library that they ask, with its declarations."""
     modules = ("__init__", *(name.replace("-", "_") for name in TOOLS))
     yield from documents(*(f"tools/{name}" for name in TOOLS), *(f"tools/cdc6600/{name}/*.*" for name in PACKAGES))
@@ -172,7 +173,7 @@ def tool_pieces():
         yield Piece(f"bin/cdc6600-{name}", (LAUNCHER % (DOCUMENTS, name)).encode(), 0o755)
 
 
-def pieces(prefix, without):
+def pieces(prefix: Path | None, without: Container[str]) -> Iterator[Piece]:
     """All that is installed below this prefix, except for these parts."""
     if "program" not in without:
         yield Piece(PROGRAM, executable(), 0o755)
@@ -189,12 +190,12 @@ def pieces(prefix, without):
         yield from documents(*PAGES)
 
 
-def by_name(found):
+def by_name(found: Iterable[Piece]) -> list[Piece]:
     """Pieces without those that come again."""
     return list({piece.name: piece for piece in found}.values())
 
 
-def pack(name):
+def pack(name: str) -> None:
     """Writes the archive, by another name at first."""
     file = Path(name)
     why_not = why_not_written(file, lambda it: is_archive(it, LIST)) if name else "FILE is empty"
@@ -202,10 +203,10 @@ def pack(name):
         raise Fault(f"{name}: {why_not}" if name else why_not)
     if not (ROOT / TRIED).is_file():
         raise Fault(f"{TRIED} is missing: tools/check built-files --write makes it")
-    Installation(file.parent, None).write(Piece(file.name, archive(by_name(pieces(None, NOT_PACKED)), LIST)))
+    Installation(file.parent, LIST).write(Piece(file.name, archive(by_name(pieces(None, NOT_PACKED)), LIST)))
 
 
-def install(given):
+def install(given: argparse.Namespace) -> None:
     """Installs all below PREFIX, or removes it."""
     if not given.prefix:
         raise Fault("PREFIX is empty")
@@ -217,7 +218,7 @@ def install(given):
         installation.install(by_name(pieces(prefix, given.without)))
 
 
-def work():
+def work() -> int:
     given = arguments()
     if given.tar is None:
         install(given)
@@ -226,7 +227,7 @@ def work():
     return 0
 
 
-def main():
+def main() -> int:
     try:
         return work()
     except Fault as fault:

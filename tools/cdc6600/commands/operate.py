@@ -11,6 +11,8 @@ import curses
 import os
 import signal
 import sys
+from argparse import Namespace
+from types import FrameType
 
 from cdc6600.drawing.following import Fault, text_of
 from cdc6600.operating.board import WIDTH
@@ -22,7 +24,7 @@ from cdc6600.shared.ending import Parser, ended, printable
 from cdc6600.shared.program import Program
 
 
-def arguments():
+def arguments() -> Namespace:
     parser = Parser(__doc__)
     parser.add_argument("--plain", action="store_true", help="write and read lines, and leave the terminal as it is")
     parser.add_argument("--save", metavar="FILE", help="where the session is written at the end")
@@ -31,7 +33,7 @@ def arguments():
     return parser.parse_args()
 
 
-def check_terminal():
+def check_terminal() -> None:
     """Raises Fault where the whole terminal can't be used."""
     if not (sys.stdin.isatty() and sys.stdout.isatty()):
         raise Fault("standard input and output", "they are no terminal; --plain takes lines")
@@ -44,13 +46,12 @@ def check_terminal():
         raise Fault("the terminal", f"TERM is {os.environ.get('TERM', 'nothing')}: {fault}") from None
 
 
-def end_by_signal(number, _frame):
+def end_by_signal(number: int, _frame: FrameType | None) -> None:
     """Ends as at the end of the main function, which leaves the terminal as it was."""
     sys.exit(128 + number)
 
 
-def operate(given, commands):
-    """Drives the machine up to the end."""
+def operate(given: Namespace, commands: Commands) -> None:
     if given.plain:
         Plain(commands).run()
     else:
@@ -60,7 +61,7 @@ def operate(given, commands):
         print(printable(f"saved in {given.save}, {commands.operation.progress}"))
 
 
-def work():
+def work() -> int:
     given = arguments()
     for number in (signal.SIGTERM, signal.SIGHUP):
         signal.signal(number, end_by_signal)
@@ -77,5 +78,5 @@ def work():
     return 0
 
 
-def main():
+def main() -> int:
     return ended("tools/operate", work, Fault)

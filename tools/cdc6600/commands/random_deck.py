@@ -8,6 +8,7 @@ The status is 0, or 2 if the command line is refused.
 """
 
 import sys
+from argparse import Namespace
 
 from cdc6600.comparing.arguments import seed
 from cdc6600.comparing.faults import ended
@@ -15,18 +16,18 @@ from cdc6600.random_decks.kinds import KINDS, drawn_deck
 from cdc6600.shared.ending import Parser
 
 
-def arguments():
+def arguments() -> Namespace:
     parser = Parser(__doc__)
     parser.add_argument("--kind", choices=KINDS, help="the kind of program")
     parser.add_argument("seed", metavar="SEED", type=seed, help="a number of up to 18 decimal digits")
     return parser.parse_args()
 
 
-def work():
+def work() -> int:
     given = arguments()
     sys.stdout.write(drawn_deck(given.seed, given.kind))
     return 0
 
 
-def main():
+def main() -> int:
     return ended("tools/random-deck", work)

@@ -31,6 +31,7 @@ import argparse
 import os
 import sys
 import time
+from typing import IO, NoReturn
 
 from cdc6600.many_jobs.call import Call, line_of
 from cdc6600.many_jobs.job import Fault, Job, clash
@@ -47,30 +48,30 @@ class Parser(argparse.ArgumentParser):
     """A parser whose refusals have the status at which xargs begins no other call. A help text that can't be written is
     a fault, which `argparse` itself ignores."""
 
-    def error(self, message):
+    def error(self, message: str) -> NoReturn:
         self.exit(REFUSED, f"{NAME}: {printable(message)}; {NAME} --help describes it\n")
 
-    def print_help(self, file=None):
+    def print_help(self, file: IO[str] | None = None) -> None:
         print(self.format_help(), end="", file=file)
 
 
 class Report:
     """The lines that a call writes: faults, progress and counts."""
 
-    def __init__(self, is_shown, total):
+    def __init__(self, is_shown: bool, total: int) -> None:
         self.is_terminal, self.total, self.begun = sys.stderr.isatty(), total, time.monotonic()
-        self.is_shown, self.next, self.length = is_shown, 0, 0
+        self.is_shown, self.next, self.length = is_shown, 0.0, 0
 
-    def tell(self, line):
+    def tell(self, line: str) -> None:
         """Writes a line to standard error, over the line of progress."""
         sys.stderr.write(f"{self.cleared()}{NAME}: {printable(line)}\n")
 
-    def cleared(self):
+    def cleared(self) -> str:
         """The characters that remove the line of progress."""
         length, self.length = self.length, 0
         return f"\r{' ' * length}\r" if length else ""
 
-    def show(self, call):
+    def show(self, call: Call) -> None:
         """Writes how many jobs have ended, not more often than is of use."""
         now = time.monotonic()
         if not self.is_shown or now < self.next and call.ended < self.total:
@@ -82,16 +83,15 @@ class Report:
         sys.stderr.flush()
         self.length = len(line) if self.is_terminal else 0
 
-    def count(self, call):
+    def count(self, call: Call) -> None:
         """Prints the counts by status."""
         sys.stderr.write(self.cleared())
         by_status = sorted(call.statuses.items(), key=lambda it: (it[0] is None, it[0]))
-        names = {None: "without a status"}
-        counts = [f"{many} {names.get(status, f'status {status}')}" for status, many in by_status]
+        counts = [f"{many} {'without a status' if it is None else f'status {it}'}" for it, many in by_status]
         print(f"{self.total} job{'s' * (self.total != 1)}: {', '.join(counts)}; {call.done_before} done before")
 
 
-def arguments():
+def arguments() -> argparse.Namespace:
     parser = Parser(description=__doc__, formatter_class=argparse.RawDescriptionHelpFormatter)
     parser.add_argument("--sequential", action="store_true", help="run each deck without threads, by run --sequential")
     parser.add_argument("--jobs", type=int, default=1, metavar="N", help="run N decks at once (default: 1)")
@@ -104,11 +104,11 @@ def arguments():
     return given
 
 
-def jobs_of(given):
+def jobs_of(given: argparse.Namespace) -> list[Job]:
     """The jobs of the decks that are given. A deck that is given twice is one job.
 
     Raises Fault if two decks would be one job."""
-    jobs = {}
+    jobs: dict[str, Job] = {}
     for deck in given.decks:
         job = Job(deck, given.folder, given.sequential)
         other = jobs.setdefault(job.name, job)
@@ -118,7 +118,7 @@ def jobs_of(given):
     return list(jobs.values())
 
 
-def program():
+def program() -> str:
     """The path of the program: the unproved one if no other is built.
 
     Raises Fault if there is none."""
@@ -128,7 +128,7 @@ def program():
     return path
 
 
-def work():
+def work() -> int:
     given = arguments()
     jobs, path = jobs_of(given), program()
     os.makedirs(given.folder, exist_ok=True)
@@ -139,7 +139,7 @@ def work():
     return 1 if call.left else 0
 
 
-def open_streams():
+def open_streams() -> None:
     """Opens each standard stream that is closed, so that no file of a job gets its number."""
     opened = os.open(os.devnull, os.O_RDWR)
     while opened <= STANDARD_ERROR:
@@ -148,7 +148,7 @@ def open_streams():
     sys.stdout, sys.stderr = sys.stdout or open(1, "w"), sys.stderr or open(STANDARD_ERROR, "w")
 
 
-def all_work():
+def all_work() -> int:
     open_streams()
     try:
         return work()
@@ -158,6 +158,6 @@ def all_work():
         raise Fault(line_of(fault)) from None
 
 
-def main():
+def main() -> int:
     end_by_signals()
     return ended(NAME, all_work, Fault, status=REFUSED)

@@ -31,14 +31,13 @@ from cdc6600.timing.waits import account
 BUDGET = 1000
 
 
-def budget(word):
-    """A number of instructions."""
+def budget(word: str) -> int:
     if not 0 < number(word, 8) <= DEFAULT_BUDGET:
         raise argparse.ArgumentTypeError(f"{word} is no number from 1 to {DEFAULT_BUDGET}")
     return int(word)
 
 
-def arguments():
+def arguments() -> argparse.Namespace:
     parser = Parser(__doc__)
     parser.add_argument("--policy", choices=POLICIES, default=TIMED, help=f"the order of events, {TIMED} by default")
     parser.add_argument("--times", metavar="FILE",
@@ -51,7 +50,7 @@ def arguments():
     return parser.parse_args()
 
 
-def work():
+def work() -> int:
     given = arguments()
     session, times = Session(given.deck, text_of(given.deck)), read_times(given.times)
     schedule = Schedule(Program(), session, times, given.policy, given.budget)
@@ -60,5 +59,5 @@ def work():
     return 0
 
 
-def main():
+def main() -> int:
     return ended("tools/schedule", work, Fault)

@@ -24,6 +24,7 @@ The status is 0, or 1 for bad input, or 2 if the command line is refused. CDC660
 """
 
 import sys
+from argparse import Namespace
 from pathlib import Path
 
 from cdc6600.drawing.comparison import Comparison
@@ -31,15 +32,15 @@ from cdc6600.drawing.following import Fault, Following, Session, text_of
 from cdc6600.drawing.forms import Form, check_columns
 from cdc6600.drawing.listing import listing_of
 from cdc6600.drawing.page import Page
-from cdc6600.shared.ending import Parser, ended, printable
+from cdc6600.shared.ending import Parser, ended, printable, set_errors
 from cdc6600.shared.program import Program
 from cdc6600.timing.clock import clocked
 from cdc6600.timing.reservations import as_json, as_text, rows_of
-from cdc6600.timing.times import read_times
+from cdc6600.timing.times import Times, read_times
 from cdc6600.timing.waits import Account
 
 
-def arguments():
+def arguments() -> Namespace:
     parser = Parser(__doc__)
     form = parser.add_mutually_exclusive_group()
     form.add_argument("--svg", action="store_true", help="draw a picture")
@@ -67,7 +68,7 @@ def arguments():
     return given
 
 
-def followed(program, file, named=None, is_picture=True):
+def followed(program: Program, file: str, named: str | None = None, is_picture: bool = True) -> Following:
     """A session that is followed to its end, with the answers in a file if one is named."""
     session = Session(file, text_of(file))
     if is_picture:
@@ -77,9 +78,8 @@ def followed(program, file, named=None, is_picture=True):
     return following
 
 
-def page_of(given, program, times):
-    """The page that is asked for."""
-    if given.compare:
+def page_of(given: Namespace, program: Program, times: Times | None) -> str:
+    if times and given.compare:
         files = (given.session, given.second)
         return Comparison([followed(program, file) for file in files], files, times).text()
     following = followed(program, given.session, given.second)
@@ -88,19 +88,18 @@ def page_of(given, program, times):
     return Page(following, printable(Path(given.session).stem), times=times).text()
 
 
-def table_of(following, given, times):
-    """The table that is asked for."""
+def table_of(following: Following, given: Namespace, times: Times | None) -> str:
     found = list(rows_of(following, Account(following, times) if times else None))
     return as_json(found) if given.json else as_text(found, bool(times))
 
 
-def work():
+def work() -> int:
     given, program = arguments(), Program()
     times = read_times(given.times) if given.cycles or given.compare else None
     if given.table:
         sys.stdout.write(table_of(followed(program, given.session, given.second, False), given, times))
     elif given.html:
-        sys.stdout.reconfigure(encoding="utf-8", errors="replace")
+        set_errors(sys.stdout, "replace", "utf-8")
         sys.stdout.write(page_of(given, program, times))
     else:
         following = followed(program, given.session, given.second, given.svg)
@@ -109,5 +108,5 @@ def work():
     return 0
 
 
-def main():
+def main() -> int:
     return ended("tools/timeline", work, Fault)

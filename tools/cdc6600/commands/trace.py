@@ -36,21 +36,19 @@ MOST = 10_000
 DIGITS, STEPS = 8, re.compile(r"([0-9]{1,8})(?:-([0-9]{1,8})?)?")
 
 
-def count(word):
-    """A number of steps, at least 1."""
+def count(word: str) -> int:
     if not number(word, DIGITS):
         raise argparse.ArgumentTypeError(f"{word} is no number above 0")
     return int(word)
 
 
-def budget(word):
-    """A number of instructions."""
+def budget(word: str) -> int:
     if not 0 < number(word, DIGITS) <= MOST_INSTRUCTIONS:
         raise argparse.ArgumentTypeError(f"{word} is no number from 1 to {MOST_INSTRUCTIONS}")
     return int(word)
 
 
-def span(word):
+def span(word: str) -> tuple[int, int]:
     """The first and the last step of `A-B`; `A-` has no last one, and `A` is one step."""
     found = STEPS.fullmatch(word) if word.isascii() else None
     first, last = (int(found[1]), int(found[2] or 10**DIGITS if "-" in word else found[1])) if found else (0, 0)
@@ -59,7 +57,7 @@ def span(word):
     return first, last
 
 
-def arguments():
+def arguments() -> argparse.Namespace:
     parser = Parser(__doc__)
     parser.add_argument("--json", action="store_true", help="print a JSON object a line")
     parser.add_argument("--budget", metavar="N", type=budget, help="run the deck for at most N instructions")
@@ -76,8 +74,7 @@ def arguments():
     return given
 
 
-def traced(given, name):
-    """The trace that the arguments ask for."""
+def traced(given: argparse.Namespace, name: str) -> Trace:
     proved = Proved()
     text = standard_input() if given.deck == STANDARD_INPUT else deck_of(given.deck)
     deck, options = Given(proved, name, text), [f"--budget={given.budget}"] if given.budget else []
@@ -85,7 +82,7 @@ def traced(given, name):
     return Trace(proved, deck, log)
 
 
-def chosen(given, total):
+def chosen(given: argparse.Namespace, total: int) -> tuple[int, int]:
     """The first and the last step to print, of so many."""
     if given.steps and given.steps[0] > total:
         raise BadInput(f"step {given.steps[0]}: the log has {total} steps")
@@ -93,7 +90,7 @@ def chosen(given, total):
     return max(first, total - given.last + 1) if given.last else first, min(last, total)
 
 
-def work():
+def work() -> int:
     given = arguments()
     name = "standard input" if given.deck == STANDARD_INPUT else given.deck
     trace = traced(given, name)
@@ -107,5 +104,5 @@ def work():
     return 0
 
 
-def main():
+def main() -> int:
     return ended("tools/trace", work)

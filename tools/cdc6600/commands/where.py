@@ -27,11 +27,13 @@ Exit status:
 """
 
 
+from argparse import Namespace
+
 from cdc6600.rules.mentions import Rules
 from cdc6600.shared.ending import Parser, ended, tell
 
 
-def arguments():
+def arguments() -> Namespace:
     parser = Parser(__doc__)
     parser.add_argument("rule", metavar="RULE", help="the label of a refusal, or a word of a rule")
     given = parser.parse_args()
@@ -40,7 +42,7 @@ def arguments():
     return given
 
 
-def work():
+def work() -> int:
     rules, rule = Rules(), arguments().rule.strip()
     found = rules.all(rule)
     if not found:
@@ -54,5 +56,5 @@ def work():
     return 0
 
 
-def main():
+def main() -> int:
     return ended("tools/where", work)

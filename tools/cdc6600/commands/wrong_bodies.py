@@ -30,6 +30,7 @@ import signal
 import sys
 import tempfile
 from pathlib import Path
+from typing import Sequence
 
 from cdc6600.building import host
 from cdc6600.crates.kit import kit
@@ -38,11 +39,11 @@ from cdc6600.refuting.running import refute, unsure_in
 from cdc6600.shared.program import ROOT
 from cdc6600.crates.crate import EDITS
 from cdc6600.wrong_bodies.edits import UNSURE
-from cdc6600.wrong_bodies.tries import Tries, read_crate
+from cdc6600.wrong_bodies.tries import Crate, Tries, read_crate
 from cdc6600.wrong_bodies.verdicts import CANT_TELL, NOT_REFUSED, REFUTED, Verdict
 
 
-def arguments():
+def arguments() -> argparse.Namespace:
     parser = argparse.ArgumentParser(description=__doc__, formatter_class=argparse.RawDescriptionHelpFormatter)
     parser.add_argument("crates", nargs="*", metavar="CRATE", help="a crate of crates.txt; none: all of them")
     parser.add_argument("--all", action="store_true", help="those of all folders; run those of which it can't tell")
@@ -57,7 +58,7 @@ def arguments():
     return parser.parse_args()
 
 
-def chosen(table, names):
+def chosen(table: Table, names: Sequence[str]) -> tuple[list[str], list[str]]:
     """The crates to try, and a fault for each that crates.txt doesn't list."""
     has_edits = {file.parent.parent.name for part in EDITS for file in table.root.glob(f"crates/*/{part}/*.edit")}
     wanted = set(names) or has_edits
@@ -65,7 +66,7 @@ def chosen(table, names):
     return [name for name in table.lines if name in wanted], faults
 
 
-def not_refused(crate):
+def not_refused(crate: Crate) -> list[str]:
     """A line for each edit of a crate that can't be read, and for each body that wasn't refused. Silence is no
     refusal."""
     lines = list(crate.faults)
@@ -76,7 +77,7 @@ def not_refused(crate):
     return lines
 
 
-def report(crate):
+def report(crate: Crate) -> None:
     """Prints what the prover found of each of a crate's bodies, but for those of which it can't tell."""
     for line in not_refused(crate):
         print(f"NOT REFUSED {line}", flush=True)
@@ -86,7 +87,7 @@ def report(crate):
             print(f"{crate.name}/{body.name}: refused at {verdict.words}", flush=True)
 
 
-def run_unsure(table, crates, given):
+def run_unsure(table: Table, crates: Sequence[Crate], given: argparse.Namespace) -> None:
     """Runs the bodies of which the prover can't tell, and those that their contracts let through, and prints what came
     of each. One that nothing refutes counts as not refused, unless its edit says why nobody can tell."""
     for crate in crates:
@@ -100,13 +101,13 @@ def run_unsure(table, crates, given):
             print(f"NOT REFUSED {crate.name}/{body.name}: {words}")
 
 
-def print_unsure(crates):
+def print_unsure(crates: Sequence[Crate]) -> None:
     """Prints the bodies of which it can't tell, with the reason of the edit, or else the goal."""
     for crate, body in unsure_in(crates):
         print(f"CAN'T TELL {crate.name}/{body.name}: {body.notes.get(UNSURE) or crate.verdicts[body.name].words}")
 
 
-def try_all(table, crates, given):
+def try_all(table: Table, crates: Sequence[Crate], given: argparse.Namespace) -> Tries:
     """Tries what is left to try, and reports each crate once that is done. Returns the run."""
     by_name = {crate.name: crate for crate in crates}
     with tempfile.TemporaryDirectory(prefix="wrong-bodies-") as room:
@@ -118,7 +119,7 @@ def try_all(table, crates, given):
     return tries
 
 
-def work():
+def work() -> int:
     given = arguments()
     table = Table(given.root)
     names, faults = chosen(table, given.crates)
@@ -145,7 +146,7 @@ def work():
     return 1 if bad else 0
 
 
-def main():
+def main() -> int:
     for number in (signal.SIGTERM, signal.SIGHUP):
         signal.signal(number, lambda *_: sys.exit(1))
     try:

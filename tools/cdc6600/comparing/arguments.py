@@ -1,6 +1,7 @@
 """What the words of a command line stand for."""
 
 import argparse
+from pathlib import Path
 
 from cdc6600.assembling.sources import Refused, as_deck
 from cdc6600.shared.reading import read_file, read_stream
@@ -15,49 +16,47 @@ MOST_SECONDS = 86400
 STANDARD_INPUT = "-"
 
 
-def number(word, digits=6):
+def number(word: str, digits: int = 6) -> int:
     """A number of decks, of at most so many digits."""
     if not (word.isascii() and word.isdecimal() and len(word) <= digits):
         raise argparse.ArgumentTypeError(f"{word} is no number of up to {digits} decimal digits")
     return int(word)
 
 
-def count(word):
+def count(word: str) -> int:
     """A number of steps, at least 1."""
     if not number(word):
         raise argparse.ArgumentTypeError(f"{word} is no number above 0")
     return int(word)
 
 
-def jobs(word):
+def jobs(word: str) -> int:
     """A number of decks that are taken side by side, at least 1."""
     if not number(word, 3):
         raise argparse.ArgumentTypeError(f"{word} is no number above 0")
     return int(word)
 
 
-def seed(word):
-    """A number from which a deck is drawn."""
+def seed(word: str) -> int:
     return number(word, 18)
 
 
-def seconds(word):
-    """A time, in seconds."""
+def seconds(word: str) -> float:
     try:
         found = float(word)
     except ValueError:
-        found = 0
+        found = 0.0
     if not 0 < found <= MOST_SECONDS:
         raise argparse.ArgumentTypeError(f"{word} is no time from 0 to {MOST_SECONDS} seconds")
     return found
 
 
-def slope(word):
+def slope(word: str) -> float:
     """The seconds by which a limit of time grows with each thousand steps, from those for a million."""
     return seconds(word) / 1000
 
 
-def bytes_of(file):
+def bytes_of(file: str | Path) -> bytes:
     """What a file has.
 
     Raises BadInput where it can't be read."""
@@ -67,7 +66,7 @@ def bytes_of(file):
         raise BadInput(f"{file}: {getattr(fault, 'strerror', None) or fault}") from None
 
 
-def deck_of(file):
+def deck_of(file: str) -> bytes:
     """What a file has as a deck. A source program is assembled.
 
     Raises BadInput where it can't be read, or is a source program with a fault."""
@@ -77,7 +76,7 @@ def deck_of(file):
         raise BadInput(str(fault)) from None
 
 
-def standard_input():
+def standard_input() -> bytes:
     """What standard input has.
 
     Raises BadInput where it can't be read."""

@@ -11,7 +11,7 @@ from .faults import Failure
 ADDRESS, WORD = "([0-7]{6})", "([0-7]{20})"
 HALTS = "(running|stop|straddle|fetch|illegal [0-7]{2,3})"
 # The lines before those of memory: the names of what stands in each, and its form.
-LINES = (
+LINES: tuple[tuple[tuple[str, ...], str], ...] = (
     (("P", "PARCEL", "HELD"), rf"P {ADDRESS} PARCEL ([0-3]) HELD ([0-7]{{20}}|none)"),
     (("HALT", "FAULT"), rf"HALT {HALTS} FAULT (none|address)"),
     (("RA", "FL", "EM"), rf"RA {ADDRESS} FL {ADDRESS} EM {ADDRESS}"),
@@ -30,7 +30,7 @@ class Difference:
     came: str
 
 
-def form_of(number):
+def form_of(number: int) -> tuple[tuple[str, ...], str]:
     """The names of what a line of a dump has, and its form. Lines are numbered from 0."""
     if number < len(LINES):
         return LINES[number]
@@ -38,7 +38,7 @@ def form_of(number):
     return (f"M {address}",), f"M {address} {WORD}"
 
 
-def shown(line):
+def shown(line: str) -> str:
     """A line as it may stand in a fault."""
     return printable(line)[:60]
 
@@ -46,12 +46,12 @@ def shown(line):
 class Dump:
     """A dump by its text. Its last line, with the log, isn't part of what it shows."""
 
-    def __init__(self, text):
+    def __init__(self, text: bytes) -> None:
         self.lines = text.decode("latin-1").removesuffix("\n").split("\n")
         if self.lines[-1].startswith(LOG):
             self.lines.pop()
 
-    def values(self, number):
+    def values(self, number: int) -> dict[str, str]:
         """What a line has under each of its names.
 
         Raises Failure where the line hasn't the form of one at its position."""
@@ -63,24 +63,24 @@ class Dump:
         return dict(zip(names, found.groups()))
 
     @cached_property
-    def state(self):
+    def state(self) -> dict[str, str]:
         """All that stands before memory."""
         return {name: value for number in range(len(LINES)) for name, value in self.values(number).items()}
 
-    def number(self, name):
+    def number(self, name: str) -> int:
         """A part of the state as a number."""
         return int(self.state[name], 8)
 
-    def word(self, address):
+    def word(self, address: int) -> str:
         """A word of memory, in its digits."""
         return self.values(len(LINES) + address)[form_of(len(LINES) + address)[0][0]]
 
     @property
-    def size(self):
+    def size(self) -> int:
         """How many words of memory it has."""
         return len(self.lines) - len(LINES)
 
-    def differences(self, came):
+    def differences(self, came: "Dump") -> tuple[Difference, ...]:
         """Where another dump differs from this one.
 
         Raises Failure where the other one is no dump of this memory."""

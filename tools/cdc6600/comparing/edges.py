@@ -5,8 +5,11 @@ An edge is named by two words: the operand or the part of the instruction, and w
 octal, and counts decimal.
 """
 
-from cdc6600.shared.instructions import instruction
+from typing import Iterable
 
+from cdc6600.shared.instructions import Instruction, Row
+
+from .dumps import Dump
 from .reports import NO_WORD, Issue
 
 INDEX_ONES, WORD_ONES = (1 << 18) - 1, (1 << 60) - 1
@@ -26,7 +29,7 @@ TARGETS = {0: "0", INDEX_ONES: "777777"}
 LAST_OF_TWO = 2
 
 
-def edges_of_numbers(ones):
+def edges_of_numbers(ones: int) -> dict[int, str]:
     """The edges among numbers of some bits, of which `ones` has all, by their values."""
     return {0: ZEROS[0], ones: ZEROS[1], ones >> 1: LARGEST, ones - (ones >> 1): SMALLEST}
 
@@ -34,12 +37,12 @@ def edges_of_numbers(ones):
 OF_INDEXES, OF_WORDS = edges_of_numbers(INDEX_ONES), edges_of_numbers(WORD_ONES)
 
 
-def edges_of_magnitudes():
+def edges_of_magnitudes() -> list[str]:
     """The edges of Bj for 22 and 23: each magnitude with both signs, and any above them."""
     return [f"{sign}{magnitude}" for sign in "+-" for magnitude in (*MAGNITUDES, f"{MAGNITUDES[-1] + 1}{ABOVE}")]
 
 
-def magnitude_of(index):
+def magnitude_of(index: int) -> str | None:
     """The edge that a Bj of 22 or 23 is, or none."""
     sign, magnitude = ("-", INDEX_ONES - index) if index & LEFTMOST else ("+", index)
     if magnitude > MAGNITUDES[-1]:
@@ -47,24 +50,24 @@ def magnitude_of(index):
     return f"{sign}{magnitude}" if magnitude in MAGNITUDES else None
 
 
-def is_branch(row):
+def is_branch(row: Row) -> bool:
     """Whether a row may jump or not."""
     return row.code.startswith(ON_WORDS) or row.code in ON_INDEXES
 
 
-def names(part, edges):
+def names(part: str, edges: Iterable[object]) -> list[str]:
     """The names of the edges of a part of an instruction."""
     return [f"{part} {edge}" for edge in edges]
 
 
-def edges_of_operand(row, operand):
+def edges_of_operand(row: Row, operand: str) -> list[str]:
     """The names of the edges of an operand."""
     if row.code in NOMINAL and operand == "Bj":
         return names(operand, edges_of_magnitudes())
     return names(operand, [*OF_WORDS.values(), *INDEFINITE * (row.code in ON_UPPER_BITS)])
 
 
-def edges_of(row):
+def edges_of(row: Row) -> tuple[str, ...]:
     """The names of all edges that can occur for a row of the instruction table."""
     unused = names("unused", UNUSED.get(row.code, ()))
     if row.code == RETURN_JUMP:
@@ -85,20 +88,14 @@ def edges_of(row):
 class Shown:
     """An instruction that is carried out between two dumps, and the edges that it shows."""
 
-    def __init__(self, before, after):
-        self.before, self.after, self.issue = before, after, Issue(before)
-        self.it = instruction(self.issue.text)
+    def __init__(self, it: Instruction, before: Dump, after: Dump) -> None:
+        self.it, self.row, self.before, self.after, self.issue = it, it.row, before, after, Issue(before)
 
-    @property
-    def row(self):
-        """The row of the instruction; none where nothing of the table is carried out."""
-        return self.it.row if self.it else None
-
-    def value(self, dump, name):
+    def value(self, dump: Dump, name: str) -> int:
         """What a register has that a row names by its field. B0 is +0."""
         return dump.number(f"{name[0]}{self.it.fields[name[1]]}")
 
-    def operand(self, name):
+    def operand(self, name: str) -> list[str | None]:
         """The edges that an operand is."""
         value, code = self.value(self.before, name), self.row.code
         if code in NOMINAL and name == "Bj":
@@ -109,11 +106,11 @@ class Shown:
             return [OF_INDEXES.get(value & INDEX_ONES)]
         return [OF_WORDS.get(value), f"{value >> 48:04o}"]
 
-    def unused(self):
+    def unused(self) -> list[str]:
         """The unused fields that aren't 0."""
         return [f"unused {it}" for it in UNUSED.get(self.row.code, ()) if self.issue.digits[POSITIONS[it]] != "0"]
 
-    def jump(self):
+    def jump(self) -> list[str]:
         """The edges of where the program goes on."""
         goes_to, fields = self.after.number("P"), self.it.fields
         if self.row.code == RETURN_JUMP:
@@ -127,10 +124,10 @@ class Shown:
         is_taken = self.after.state["HELD"] == NO_WORD and goes_to == fields["K"]
         return ["jump yes", f"to {TARGETS.get(goes_to)}"] if is_taken else ["jump no"]
 
-    def result(self):
+    def result(self) -> list[str]:
         """The edges of a result on registers."""
         fields = self.it.fields
-        edges = [f"jk {fields.get('jk')}", f"K {OF_INDEXES.get(fields.get('K'))}"]
+        edges = [f"jk {fields.get('jk')}", f"K {OF_INDEXES.get(fields.get('K', -1))}"]
         if not self.row.results:
             return edges
         if self.row.results[0] == "Bi" and not fields["i"]:
@@ -138,7 +135,7 @@ class Shown:
         ones = OF_WORDS if self.row.results[0] == "Xi" else OF_INDEXES
         return [*edges, f"result {ones.get(self.value(self.after, self.row.results[0]))}"]
 
-    def reference(self):
+    def reference(self) -> list[str]:
         """The edges of a reference: in range or out of it, and a store to the word that is held."""
         referred = self.issue.referred(self.after)
         if not referred:
@@ -148,7 +145,7 @@ class Shown:
         return [f"{kind} {'out' if at is None else 'in'}", *[f"{kind} own"] * is_own]
 
     @property
-    def edges(self):
+    def edges(self) -> set[str]:
         """The names of the edges that it shows."""
         found = [f"{name} {edge}" for name in self.row.operands for edge in self.operand(name)]
         found += self.jump() if self.row.unit == "Branch" else self.result()

@@ -7,6 +7,7 @@ import signal
 import subprocess
 import tempfile
 import threading
+from pathlib import Path
 
 from cdc6600.shared.ending import why_not_started
 from cdc6600.shared.program import words_and_input
@@ -25,20 +26,21 @@ class Reading:
     """What a process writes to standard output and standard error, up to its end, to a moment and to a number of bytes.
     It waits for the end by a descriptor of the process, whose number stays its own until it is ended with its group."""
 
-    def __init__(self, process, seconds, most):
+    def __init__(self, process: subprocess.Popen[bytes], seconds: float, most: int) -> None:
         self.seconds, self.most, self.clock = seconds, most, Clock()
         self.printed, self.said, self.process = bytearray(), bytearray(), os.pidfd_open(process.pid)
-        kept = ((self.process, None), (process.stdout, (self.printed, most + 1)), (process.stderr, (self.said, SAID)))
+        assert process.stdout and process.stderr
         self.streams = selectors.DefaultSelector()
-        for stream, text in kept:
-            self.streams.register(stream, selectors.EVENT_READ, text)
+        self.streams.register(self.process, selectors.EVENT_READ)
+        self.streams.register(process.stdout, selectors.EVENT_READ, (self.printed, most + 1))
+        self.streams.register(process.stderr, selectors.EVENT_READ, (self.said, SAID))
 
     @property
-    def left(self):
+    def left(self) -> float:
         """The seconds that are left. Those in which the tool itself is stopped don't count."""
         return 0 if IS_OVER.is_set() else max(0, self.seconds - self.clock.read())
 
-    def take(self, key):
+    def take(self, key: selectors.SelectorKey) -> None:
         """Takes what a stream has, and gives it up at its end. The descriptor of a process has nothing but its end."""
         part = b""
         if key.data:
@@ -48,12 +50,12 @@ class Reading:
         if not part:
             self.streams.unregister(key.fileobj)
 
-    def look(self):
+    def look(self) -> None:
         """Takes what the streams have, or waits for it a while."""
         for key, _ in self.streams.select(min(self.left, LOOK)):
             self.take(key)
 
-    def to_end(self):
+    def to_end(self) -> None:
         """Reads to the end of both streams and of the process.
 
         Raises Failure where it doesn't come, or comes after too many bytes."""
@@ -70,14 +72,14 @@ class Reading:
             raise Slow(self.seconds)
 
     @property
-    def last_said(self):
+    def last_said(self) -> str:
         """The last line that it wrote to standard error, but for a note how to see more."""
         lines = self.said.decode(errors="replace").splitlines()
         told = [line for line in lines if line.strip() and not line.startswith("note: ")]
         return "".join(f": {line.strip()[:120]}" for line in told[-1:])
 
 
-def end_group(process):
+def end_group(process: subprocess.Popen[bytes]) -> None:
     """Ends a process with all that it started."""
     try:
         os.killpg(process.pid, signal.SIGKILL)
@@ -91,7 +93,7 @@ class Emulator:
     `--log-follows`, the line after the deck, and prints the dump. A call of it may take so many seconds, and so many
     more for each thousand steps of the log."""
 
-    def __init__(self, command, seconds, slope):
+    def __init__(self, command: str, seconds: float, slope: float) -> None:
         self.command, self.seconds, self.slope = command, seconds, slope
         self.calls, self.counting = 0, threading.Lock()
         try:
@@ -101,24 +103,24 @@ class Emulator:
         if not self.words:
             raise BadInput("the command has no word")
 
-    def start(self, log, deck):
+    def start(self, log: str, deck: Path) -> subprocess.Popen[bytes]:
         """Starts it on the file of a deck, with a log. It begins a session, and so a group of processes, by which all
         that it starts can be ended."""
-        piped = {"stdout": subprocess.PIPE, "stderr": subprocess.PIPE}
         try:
             words, text = words_and_input(log, deck.read_bytes())
             with tempfile.TemporaryFile() as given:
                 given.write(text)
                 given.seek(0)
-                return subprocess.Popen([*self.words, *words], stdin=given, **piped, start_new_session=True)
+                return subprocess.Popen([*self.words, *words], stdin=given, stdout=subprocess.PIPE,
+                                        stderr=subprocess.PIPE, start_new_session=True)
         except OSError as fault:
             raise BadInput(f"the command {self.command}: {why_not_started(fault)}") from None
 
-    def limit(self, steps):
+    def limit(self, steps: int) -> float:
         """The seconds that a call with so many steps may take."""
         return self.seconds + steps // 1000 * self.slope
 
-    def printed(self, log, deck, most, steps):
+    def printed(self, log: str, deck: Path, most: int, steps: int) -> bytes:
         """What it prints for a log of so many steps, at most so many bytes.
 
         Raises Slow where it doesn't end in time, and Failure where it dies or prints nothing."""
@@ -139,6 +141,5 @@ class Emulator:
         return bytes(reading.printed)
 
 
-def name_of(number):
-    """The name of a signal."""
+def name_of(number: int) -> str:
     return signal.Signals(number).name if number in set(signal.Signals) else f"signal {number}"

@@ -4,6 +4,8 @@ import signal
 import sys
 import threading
 from contextlib import contextmanager
+from types import FrameType
+from typing import Callable, Iterator
 
 from cdc6600.shared import ending
 
@@ -23,7 +25,7 @@ class Failure(Exception):
 class Slow(Failure):
     """An emulator that ran into its limit of time, so many seconds. It hangs or is slow."""
 
-    def __init__(self, limit):
+    def __init__(self, limit: float) -> None:
         super().__init__(f"doesn't end in {limit:g} seconds")
         self.limit = limit
 
@@ -32,10 +34,10 @@ class Leaving:
     """How a signal ends the tool: quietly, and with the commands that it runs. Nothing interrupts the main thread while
     it starts a command and waits for its end: the command is ended first, since it looks whether the tool is over."""
 
-    def __init__(self):
+    def __init__(self) -> None:
         self.number, self.is_later = 0, False
 
-    def leave(self, number, _):
+    def leave(self, number: int, _: FrameType | None) -> None:
         """Ends the tool by a signal."""
         self.number = number
         IS_OVER.set()
@@ -43,7 +45,7 @@ class Leaving:
             sys.exit(128 + number)
 
     @contextmanager
-    def later(self):
+    def later(self) -> Iterator[None]:
         """Within it a signal to the main thread waits. Other threads get none."""
         if threading.current_thread() is not threading.main_thread():
             yield
@@ -60,7 +62,7 @@ class Leaving:
 LEAVING = Leaving()
 
 
-def read_all(main):
+def read_all(main: Callable[[], int]) -> int:
     """What the main function of a tool answers. A fault of a device or a file is bad input."""
     try:
         return main()
@@ -71,12 +73,12 @@ def read_all(main):
         raise BadInput(line) from None
 
 
-def ended(tool, main):
+def ended(tool: str, main: Callable[[], int]) -> int:
     """Goes through a tool's main function; its exit status."""
     for number in (signal.SIGINT, signal.SIGTERM):
         signal.signal(number, LEAVING.leave)
     if sys.stdout is None:
         print(f"{tool}: standard output is closed", file=sys.stderr)
         return BAD_INPUT
-    sys.stdout.reconfigure(errors="backslashreplace")
+    ending.set_errors(sys.stdout, "backslashreplace")
     return ending.ended(tool, lambda: read_all(main), BadInput, status=BAD_INPUT)

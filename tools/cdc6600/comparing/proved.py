@@ -1,6 +1,7 @@
 """The proved program, asked for what an emulator is compared with."""
 
 import re
+from typing import Sequence, TypeVar
 
 from cdc6600.shared.decks import log_of
 from cdc6600.shared.program import NoProgram, Program
@@ -13,15 +14,16 @@ from .faults import BadInput, Failure
 BEFORE_MEMORY, OF_A_WORD = 1000, 30
 LISTED = re.compile(r"([0-7]{6}) ([0-7]{20}) .*")
 FAULT = "cdc6600: "
+Kind = TypeVar("Kind", bound=Dump)
 
 
 class Proved:
     """The program cdc6600. What it refuses is bad input, and so is a program that doesn't do its part."""
 
-    def __init__(self):
+    def __init__(self) -> None:
         self.program = Program()
 
-    def ask(self, words, text, subject):
+    def ask(self, words: Sequence[str], text: bytes, subject: str) -> bytes:
         """What the program prints for a command.
 
         Raises BadInput where it refuses it: its fault line then follows the subject."""
@@ -36,27 +38,31 @@ class Proved:
             raise self.fault(words[0], told or f"it ended with status {ran.status}")
         return ran.printed
 
-    def fault(self, command, what):
+    def fault(self, command: str, what: str) -> BadInput:
         """What is wrong with a program that doesn't do its part."""
         return BadInput(f"{self.program.path} {command}: {what}")
 
-    def log(self, text, name, *options):
+    def log(self, text: bytes, name: str, *options: str) -> str:
         """The log of a run of a deck, with these options."""
         log = log_of(self.ask(["run", *options], text, name))
         if log is None:
             raise self.fault("run", "it prints no log")
         return log
 
-    def words(self, text, name):
+    def words(self, text: bytes, name: str) -> dict[int, str]:
         """The words that a deck places, in their digits, by their addresses."""
         listed = self.ask(["list"], text, name).decode("latin-1").splitlines()
         found = [LISTED.fullmatch(line) for line in listed]
         if not all(found):
             raise self.fault("list", "it prints no listing")
-        return {int(it[1], 8): it[2] for it in found}
+        return {int(it[1], 8): it[2] for it in found if it}
 
-    def dump(self, given, log, kind=Dump):
-        """The dump of a deck whose whole memory is shown, after a log, as one of this kind."""
+    def dump(self, given: "Given", log: str) -> Dump:
+        """The dump of a deck whose whole memory is shown, after a log."""
+        return self.dump_as(Dump, given, log)
+
+    def dump_as(self, kind: type[Kind], given: "Given", log: str) -> Kind:
+        """The same dump as one of this kind."""
         dump = kind(self.ask(["replay", log], given.text, f"the log {log[:80]}"))
         try:
             if not dump.state or dump.size != given.size:
@@ -69,7 +75,7 @@ class Proved:
 class Given:
     """A deck as an emulator gets it: its words alone, and one `show` line for the whole memory."""
 
-    def __init__(self, proved, name, text):
+    def __init__(self, proved: Proved, name: str, text: bytes) -> None:
         """Reads a deck by its text; its name goes into faults.
 
         Raises BadInput where it is refused."""
@@ -83,6 +89,6 @@ class Given:
         lines += [f"start {start[1].decode()}", f"show 0 {self.size - 1:o}", "end", ""]
         self.text = "\n".join(lines).encode("latin-1")
 
-    def most_printed(self, log):
+    def most_printed(self, log: str) -> int:
         """How many bytes a dump of it has at most after a log. Twice as many are still taken for an attempt at one."""
         return 2 * (BEFORE_MEMORY + OF_A_WORD * self.size + len(log))

@@ -3,23 +3,29 @@
 import re
 from dataclasses import dataclass
 from pathlib import Path
+from typing import Iterable
 
 from cdc6600.random_decks.kinds import drawn_deck, kind_of
-from cdc6600.shared.decks import decks, log_of, sessions
+from cdc6600.shared.decks import decks, sessions
 
 from .finding import Replayed
-from .proved import Given
+from .proved import Given, Proved
 
 
 class Case:
     """A deck with a log, by its name."""
 
-    def given(self, proved):
+    name: str
+
+    def text_and_log(self, proved: Proved) -> tuple[bytes, str]:
+        raise NotImplementedError
+
+    def given(self, proved: Proved) -> tuple[Given, str]:
         """The deck as it is given to an emulator, and its log."""
         text, log = self.text_and_log(proved)
         return Given(proved, self.name, text), log
 
-    def replayed(self, proved, folder):
+    def replayed(self, proved: Proved, folder: Path) -> Replayed:
         """Its replay, with its file in this folder."""
         return Replayed(proved, *self.given(proved), Path(folder) / re.sub(r"\W+", "-", self.name))
 
@@ -32,35 +38,27 @@ class StoredCase(Case):
     text: bytes
     log: str
 
-    def text_and_log(self, _):
-        """Its text and its log."""
+    def text_and_log(self, proved: Proved) -> tuple[bytes, str]:
         return self.text, self.log
 
 
-@dataclass(frozen=True)
 class DrawnCase(Case):
-    """The deck that is drawn from a seed. Its log is that of a run."""
+    """The deck that is drawn from a seed. Its log is that of a run, and its name has the command that prints it."""
 
-    seed: int
+    def __init__(self, seed: int) -> None:
+        self.seed, self.name = seed, f"tools/random-deck {seed} ({kind_of(seed)})"
 
-    @property
-    def name(self):
-        """The command that prints it, and its kind."""
-        return f"tools/random-deck {self.seed} ({kind_of(self.seed)})"
-
-    def text_and_log(self, proved):
-        """Its text and its log."""
+    def text_and_log(self, proved: Proved) -> tuple[bytes, str]:
         text = drawn_deck(self.seed).encode()
         return text, proved.log(text, self.name)
 
 
-def stored_cases():
+def stored_cases() -> list[StoredCase]:
     """The decks of decks/ that aren't refused, with their stored logs, and the sessions, whose logs have peripheral
     accesses too."""
-    found = [StoredCase(str(it), it.text, log_of(it.dump)) for it in decks() if it.dump is not None]
-    return found + [StoredCase(str(it), it.text, log_of(it.answers)) for it in sessions()]
+    return [StoredCase(str(it), it.text, it.log) for it in (*decks(), *sessions()) if it.log]
 
 
-def drawn_cases(seeds):
+def drawn_cases(seeds: Iterable[int]) -> list[DrawnCase]:
     """The drawn decks of these seeds."""
     return [DrawnCase(seed) for seed in seeds]

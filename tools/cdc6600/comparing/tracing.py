@@ -3,12 +3,14 @@
 import json
 import os
 from collections import deque
-from concurrent.futures import ThreadPoolExecutor
+from concurrent.futures import Future, ThreadPoolExecutor
 from dataclasses import asdict, dataclass
+from typing import Container, Iterable, Iterator
 
 from cdc6600.shared.instructions import instruction
 
 from .dumps import LOG, Dump
+from .proved import Given, Proved
 from .reports import HALTED, UNFETCHED, Issue
 from .steps import Steps
 
@@ -27,25 +29,23 @@ AHEAD = 2
 class Snapshot(Dump):
     """A dump whose memory stays one text, so that two dumps of a large memory are compared quickly."""
 
-    def __init__(self, text):
+    def __init__(self, text: bytes) -> None:
         head, begins, memory = text.partition(b"\nM ")
         super().__init__(head + b"\n")
         self.memory = (begins + memory)[1:].partition(LOG.encode())[0]
 
     @property
-    def size(self):
-        """How many words of memory it has."""
+    def size(self) -> int:
         return len(self.memory) // OF_A_LINE
 
-    def word(self, address):
-        """A word of memory, in its digits."""
+    def word(self, address: int) -> str:
         at = address * OF_A_LINE
         return self.memory[at + BEFORE_WORD : at + OF_A_LINE - 1].decode("latin-1")
 
-    def changed(self, after):
+    def changed(self, after: "Snapshot") -> list[int]:
         """The addresses of the words that differ in another snapshot. Parts of memory without a difference are skipped
         whole."""
-        parts, found = [(0, self.size)], []
+        parts, found = [(0, self.size)], list[int]()
         while parts:
             first, end = parts.pop()
             part = slice(first * OF_A_LINE, end * OF_A_LINE)
@@ -70,18 +70,17 @@ class Line:
     parcel: int | None
     memory: str | None
     text: str
-    operands: dict
-    results: dict
+    operands: dict[str, str]
+    results: dict[str, str]
 
-    def __str__(self):
+    def __str__(self) -> str:
         position = f"{self.p or NOTHING:6} {NOTHING if self.parcel is None else self.parcel} {self.memory or NOTHING:6}"
         operands, results = (" ".join(map("=".join, it.items())) for it in (self.operands, self.results))
         values = " ".join(filter(None, (operands, "->", results)))
         return f"{self.step:8} {self.kind} {position} {self.text:15} {values}"
 
     @property
-    def json(self):
-        """The line as a JSON object."""
+    def json(self) -> str:
         return json.dumps(asdict(self))
 
 
@@ -95,18 +94,17 @@ class Step:
     after: Snapshot
 
     @property
-    def line(self):
-        """Its line."""
+    def line(self) -> Line:
         return self.of_instruction() if self.entry[0] == "I" else self.of_access()
 
-    def of_access(self):
+    def of_access(self) -> Line:
         """The line of an exchange or of a peripheral access."""
         kind, address = self.entry[0], int(self.entry[1:].partition("=")[0], 8)
         operands = self.words(self.before, [address] * (kind == "R"))
         results = self.results((), [address] * (kind == "W"), HELD)
         return Line(self.number, kind, None, None, f"{address:06o}", TEXTS[kind], operands, results)
 
-    def of_instruction(self):
+    def of_instruction(self) -> Line:
         """The line of an instruction."""
         issue = Issue(self.before)
         it, referred = instruction(issue.text), issue.referred(self.after)
@@ -120,7 +118,7 @@ class Step:
         memory = None if issue.address is None else f"{issue.address:06o}"
         return Line(self.number, "I", p, parcel, memory, TEXTS.get(issue.text, issue.text), operands, results)
 
-    def results(self, named, written, hidden):
+    def results(self, named: Container[str], written: Iterable[int], hidden: Container[str]) -> dict[str, str]:
         """The registers and words that are named as results, and all others that changed except for hidden ones, in a
         dump's order."""
         old, new = self.before.state, self.after.state
@@ -129,7 +127,7 @@ class Step:
         return {name: new[name].replace(" ", "-") for name in names} | self.words(self.after, addresses)
 
     @staticmethod
-    def words(dump, addresses):
+    def words(dump: Snapshot, addresses: Iterable[int]) -> dict[str, str]:
         """The words at some addresses of memory, by their names."""
         return {f"M{address:06o}": dump.word(address) for address in addresses}
 
@@ -137,19 +135,19 @@ class Step:
 class Trace:
     """The steps of a log on a deck. Each dump is asked for by itself, by several threads side by side."""
 
-    def __init__(self, proved, given, log):
+    def __init__(self, proved: Proved, given: Given, log: str) -> None:
         """Raises BadInput where the program refuses the log."""
         self.proved, self.given = proved, given
-        proved.dump(given, log, Snapshot)
+        proved.dump_as(Snapshot, given, log)
         self.steps = Steps(log)
 
-    def snapshot(self, count):
+    def snapshot(self, count: int) -> Snapshot:
         """The dump after so many steps."""
-        return self.proved.dump(self.given, self.steps.beginning(count), Snapshot)
+        return self.proved.dump_as(Snapshot, self.given, self.steps.beginning(count))
 
-    def snapshots(self, counts):
+    def snapshots(self, counts: Iterable[int]) -> Iterator[Snapshot]:
         """The dumps after these numbers of steps, in their order."""
-        threads, ahead = len(os.sched_getaffinity(0)), deque()
+        threads, ahead = len(os.sched_getaffinity(0)), deque[Future[Snapshot]]()
         pool = ThreadPoolExecutor(threads)
         try:
             for count in counts:
@@ -161,7 +159,7 @@ class Trace:
         finally:
             pool.shutdown(cancel_futures=True)
 
-    def lines(self, first, last):
+    def lines(self, first: int, last: int) -> Iterator[Line]:
         """The lines of the steps from one number to another."""
         if first > last:
             return

@@ -7,7 +7,7 @@ from pathlib import Path
 from .table import Unreadable
 
 
-def checker():
+def checker() -> Path:
     """The checker, which stands beside `rt`."""
     found = shutil.which("rt")
     beside = Path(found).resolve().parent / "rattle" if found else None
@@ -18,7 +18,7 @@ def checker():
     return beside
 
 
-def kit():
+def kit() -> str:
     """The words that identify the kit: what `rt` says of itself, and the size and the date of the checker."""
     said = subprocess.run(["rt", "version"], capture_output=True, text=True, check=False)
     if said.returncode or not said.stdout.strip():

@@ -14,7 +14,6 @@ CONSTANT = re.compile(r"\s*(?:pub(?:\([^)]*\))?\s+)?(?:const|static)\s+(\w+)\s*:
 MACRO = re.compile(r"macro_rules!\s+(\w+)")
 DECLARES = re.compile(r"(?:pub(?:\([^)]*\))?\s+)?(?:struct|enum|trait|union)\s+(\w+)")
 CLAUSE = re.compile(r" *(?:requires|ensures) ([a-z_0-9]+) \{")
-REQUIRES = re.compile(r"^ *requires\b", re.MULTILINE)
 CLAUSES = re.compile(r"^ *(?:requires|ensures)\b", re.MULTILINE)
 # A line of the comment above an item, or of its attributes.
 ABOVE = re.compile(r"\s*(?:///|#\[)")
@@ -52,94 +51,84 @@ class Item:
     kind: str = "function"
 
     @property
-    def owner(self):
+    def owner(self) -> str:
         """The type of the `impl`, or the trait, that it stands in."""
         return self.within.name
 
     @property
-    def trait(self):
-        """The trait that the `impl` is of."""
+    def trait(self) -> str:
         return self.within.trait
 
-    def key(self):
+    def key(self) -> tuple[str, str, str]:
         """What tells it from the other items of its file, but for those of another `cfg`."""
         return self.name, self.owner, self.trait
 
     @property
-    def label(self):
+    def label(self) -> str:
         """Its name after that of its type, if it has one."""
         return f"{self.owner}::{self.name}" if self.owner else self.name
 
     @property
-    def number(self):
+    def number(self) -> int:
         """The number of its first line, from 1."""
         return self.first + 1
 
     @cached_property
-    def lines(self):
-        """The lines of its text."""
+    def lines(self) -> list[str]:
         return self.text.split("\n")
 
     @property
-    def indentation(self):
+    def indentation(self) -> str:
         """The blanks before its first line."""
-        return re.match(r"\s*", self.text)[0]
+        return self.text[: -len(self.text.lstrip())]
 
     @property
-    def is_public(self):
-        """Whether it is public everywhere."""
+    def is_public(self) -> bool:
         return self.text.lstrip().startswith("pub ")
 
     @cached_property
-    def body_start(self):
+    def body_start(self) -> int:
         """The number of the line on which the body begins, after the contract."""
         alone = [at for at, line in enumerate(self.lines) if line in (self.indentation + "{", self.indentation + "{}")]
         opening = alone or [at for at, line in enumerate(self.lines) if line.endswith("{")] or [0]
         return self.first + opening[0]
 
     @property
-    def size(self):
+    def size(self) -> int:
         """How many lines its body has."""
         return 0 if self.text.endswith(";") else max(self.last - self.body_start - 1, 0)
 
-    def names(self):
-        """The names in the body."""
+    def names(self) -> set[str]:
         return names_in("\n".join(self.lines[self.body_start - self.first :]))
 
     @cached_property
-    def declaration(self):
+    def declaration(self) -> str:
         """Its signature and clauses, up to its body or its semicolon."""
         has_body = not self.text.endswith(";")
         return "\n".join(self.lines[: self.body_start - self.first + 1]) if has_body else self.text
 
     @property
-    def signature(self):
+    def signature(self) -> str:
         """What it is given and what it answers, without its clauses."""
         return CLAUSES.split(self.declaration, maxsplit=1)[0]
 
     @cached_property
-    def clauses(self):
+    def clauses(self) -> set[str]:
         """The names of the clauses of its contract."""
         return {found[1] for found in map(CLAUSE.match, self.lines) if found}
 
     @property
-    def has_requires(self):
-        """Whether its caller has something to show."""
-        return bool(REQUIRES.search(self.declaration))
-
-    @property
-    def comment(self):
+    def comment(self) -> str:
         """Its comment, without the marks and what stands under `# Errors`."""
         lines = (line.strip() for line in self.above.partition("# Errors")[0].splitlines())
         return "\n".join(line.removeprefix("///").strip() for line in lines if line.startswith("///"))
 
     @property
-    def errors(self):
-        """What the comment says under `# Errors`."""
+    def errors(self) -> str:
         return self.above.partition("# Errors")[2]
 
 
-def names_in(body):
+def names_in(body: str) -> set[str]:
     """The words of a text, less comments and strings, that may be names of functions, constants or macros."""
     body = re.sub(r'//[^\n]*|"(?:[^"\\]|\\.)*"', " ", body)
     called = re.findall(r"\b(\w+)!?\s*(?:::<[^()]*>)?\s*\(|::(\w+)\b|\b(\w+)!\s*[\[{]|\b([A-Z][A-Z0-9_]+)\b", body)
@@ -147,13 +136,13 @@ def names_in(body):
     return {word for words in called for word in words if word} | set(passed)
 
 
-def module_of(path):
+def module_of(path: str) -> tuple[str, ...]:
     """The module that a file holds, as its names from the crate's root on: `src/a/b.rt` is [a, b]."""
     steps = list(Path(path).with_suffix("").parts[1:])
     return tuple(steps[:-1] if steps[-1] in ("lib", "main", "mod") else steps)
 
 
-def owner_of(line):
+def owner_of(line: str) -> Owner | None:
     """The `impl` or the trait that a line begins, if it begins one."""
     plain = re.sub(r"<[^<>]*>", "", re.sub(r"<[^<>]*>", "", line)).replace("->", "")
     found = re.match(r"impl\s+(?:([\w:]+)\s+for\s+)?&?(?:'\w+\s+)?([\w:]+)", plain)
@@ -164,7 +153,7 @@ def owner_of(line):
     return Owner(found[2], is_trait=True, is_public_trait=found[1] == "pub ") if found else None
 
 
-def items_of(path, text):
+def items_of(path: str, text: str) -> list[Item]:
     """The functions, constants and macros of a file. A function inside another one is a part of it."""
     lines, found, at, owner = text.split("\n"), [], 0, Owner()
     while at < len(lines):
@@ -176,23 +165,23 @@ def items_of(path, text):
             last = last_line(lines, at, head[1] if head else "")
         elif constant:
             last = next((n for n in range(at, len(lines)) if lines[n].endswith(";")), at)
-        kind = "function" if head else "constant" if constant else "macro" if macro else ""
-        if kind:
-            name = head[2] if head else (constant or macro)[1]
+        if it := head or constant or macro:
+            name = head[2] if head else it[1]
+            kind = "function" if head else "constant" if constant else "macro"
             above, text_of = "\n".join(lines[first_above(lines, at) : at]), "\n".join(lines[at : last + 1])
             found.append(Item(path, at, last, name, text_of, above, owner, kind))
         at = last + 1
     return found
 
 
-def first_above(lines, at):
+def first_above(lines: list[str], at: int) -> int:
     """The first line of the comment and the attributes above a line."""
     while at and ABOVE.match(lines[at - 1]):
         at -= 1
     return at
 
 
-def last_line(lines, at, indentation):
+def last_line(lines: list[str], at: int, indentation: str) -> int:
     """The last line of a function or a macro: its closing brace, or that of a declaration, which ends outside any
     brace."""
     head = lines[at].rstrip()
@@ -213,13 +202,12 @@ def last_line(lines, at, indentation):
 class Sources:
     """The texts of a crate's sources by their path in the crate, and the items that stand in them."""
 
-    texts: dict
-    items: list = field(default_factory=list)
-    types: dict = field(default_factory=dict)  # the module paths in which a type of a name is declared
+    texts: dict[str, str]
+    items: list[Item] = field(default_factory=list)
+    types: dict[str, list[tuple[str, ...]]] = field(default_factory=dict)  # the modules that declare a type
 
     @classmethod
-    def read(cls, folder):
-        """Reads the sources of a crate in a folder."""
+    def read(cls, folder: Path) -> "Sources":
         files = sorted(Path(folder, "src").rglob("*.rt"))
         source = cls({str(file.relative_to(folder)): file.read_text(encoding="utf-8") for file in files})
         for path, text in source.texts.items():
@@ -230,6 +218,6 @@ class Sources:
                     source.types.setdefault(declared[1], []).append(module_of(path))
         return source
 
-    def functions(self):
+    def functions(self) -> list[Item]:
         """The functions among the items."""
         return [item for item in self.items if item.kind == "function"]

@@ -4,13 +4,15 @@ cycles, the cycles, the instructions a cycle, and what was waited for."""
 import html
 from pathlib import Path
 from string import Template
+from typing import Sequence
 
 from cdc6600.shared.ending import printable
 from cdc6600.timing.reservations import rows_of
+from cdc6600.timing.times import Times
 from cdc6600.timing.totals import Totals
 from cdc6600.timing.waits import Account
 
-from .following import Fault
+from .following import Fault, Following
 from .forms import Form, UnitForm, start_of
 from .page import legend_of, picture_style, read
 from .pictures import HELD, pair, units
@@ -21,35 +23,35 @@ class Timed:
     """A session with its account, its totals, and its drawings by minor cycles: a row for each reservation, and a row
     for each unit."""
 
-    def __init__(self, following, name, times):
+    form: Form
+    units: Form
+
+    def __init__(self, following: Following, name: str, times: Times) -> None:
         self.following, self.name = following, name
         self.account = Account(following, times)
         self.totals = Totals(self.account.clock, following.log.text)
-        self.form = self.units = None
 
-    def draw(self, start):
+    def draw(self, start: list[int]) -> None:
         """Makes the drawings, which begin with these columns."""
         self.form, self.units = (kind(self.following, self.account.cycles, start) for kind in (Form, UnitForm))
         self.form.check_columns()
 
-    def titled(self, picture):
-        """A picture below its name."""
+    def titled(self, picture: str) -> str:
         return f"<h3>{html.escape(self.name)}</h3>\n{picture}"
 
-    def reservations(self):
+    def reservations(self) -> str:
         """The table of its reservations, below its name."""
         found = rows_of(self.following, self.account)
         return self.titled(reservations(found, True, self.name))
 
 
-def titles_of(files):
+def titles_of(files: Sequence[str]) -> list[str]:
     """The names of files without their folders and endings, or the files if these are the same."""
     names = [printable(Path(file).stem) for file in files]
     return names if len(set(names)) == len(files) else [printable(file) for file in files]
 
 
-def arrange(forms):
-    """Arranges drawings on one axis."""
+def arrange(forms: Sequence[Form]) -> None:
     sizes = (max(it.wide for it in forms), max(it.column for it in forms), max(len(it.events) for it in forms))
     for form in forms:
         form.arrange(*sizes)
@@ -60,7 +62,7 @@ class Comparison:
 
     Raises Fault where they aren't of one deck."""
 
-    def __init__(self, followed, names, times):
+    def __init__(self, followed: Sequence[Following], names: Sequence[str], times: Times) -> None:
         one, other = followed
         if one.session.deck != other.session.deck:
             raise Fault(names[1], f"its deck isn't that of {names[0]}")
@@ -71,8 +73,7 @@ class Comparison:
         for name in ("form", "units"):
             arrange([getattr(it, name) for it in self.sessions])
 
-    def text(self):
-        """The page."""
+    def text(self) -> str:
         names = [html.escape(it.name) for it in self.sessions]
         said = "Timeline of {}, a column for each minor cycle"
         pictures = "".join(it.titled(pair(it.form, said.format(it.name))) for it in self.sessions)

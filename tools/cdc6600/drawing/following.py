@@ -7,12 +7,18 @@ drawing leads to has to lead to the same dump. What the parts of the machine hav
 import re
 from collections import defaultdict
 from functools import cached_property, lru_cache
+from pathlib import Path
+from typing import TYPE_CHECKING
 
 from cdc6600.asking.machine import Machine, is_refusal
-from cdc6600.asking.states import part_of
+from cdc6600.asking.states import State, part_of
 from cdc6600.assembling.sources import Refused, as_deck
 from cdc6600.shared.ending import printable
+from cdc6600.shared.program import Program
 from cdc6600.shared.reading import read_file
+
+if TYPE_CHECKING:
+    from .listing import Listing
 
 UNITS = "(?:branch|boolean|shift|add|longadd|multiply1|multiply2|divide|increment1|increment2)"
 EVENT = re.compile(
@@ -38,11 +44,11 @@ DUMP_LINES, WORDS = 14, 64
 class Fault(Exception):
     """What is wrong with a file. Its text is the line for the user."""
 
-    def __init__(self, file, what):
+    def __init__(self, file: str | Path, what: str) -> None:
         super().__init__(f"{file}: {what}")
 
 
-def text_of(file):
+def text_of(file: str | Path) -> str:
     """What a file has, a character for each byte. A source program is assembled."""
     try:
         return as_deck(file, read_file(file)).decode("latin-1")
@@ -55,50 +61,50 @@ def text_of(file):
 class Session:
     """A session by its text: the deck's lines without those that show words, these, and the events of the schedule."""
 
-    def __init__(self, file, text):
+    def __init__(self, file: str | Path, text: str) -> None:
         self.file, self.text = file, text
         lines = text.removesuffix("\n").split("\n")
         self.deck_end = lines.index("end") + 1 if "end" in lines else 0
         deck = lines[: max(self.deck_end - 1, 0)]
         self.deck = [line for line in deck if not line.startswith("show ")]
         self.shows = [line for line in deck if line.startswith("show ")]
-        self.events = []
+        self.events: list[str] = []
         for line in lines[self.deck_end :] if self.deck_end else []:
             self.events.append(line)
             if line in ENDS:
                 break
 
     @property
-    def core(self):
+    def core(self) -> int:
         """How many words the memory has."""
         found = re.match(r"core (\d+)", self.text)
         return int(found[1]) if found else 0
 
     @property
-    def shown(self):
+    def shown(self) -> list[tuple[int, int]]:
         """The first words that the deck shows: pairs of an address and a number of words."""
-        found, left = [], WORDS
+        found, left = list[tuple[int, int]](), WORDS
         for line in self.shows:
             first, last = (int(field, 8) for field in line.split(" ")[1:])
             found.append((first, min(last - first + 1, left)))
             left -= found[-1][1]
         return found
 
-    def machine(self):
-        """A machine that is kept, booted with the deck."""
+    def machine(self) -> Machine:
         return Machine("\n".join([*self.deck, "end", ""]).encode("latin-1"), self.shown)
 
 
 class Reservation:
     """An issued instruction: the unit and its text, and the logs up to it without and with it. From its store event on
     its part in memory is known: whether it makes a reference, the absolute address if that is in range, and the channel
-    of a load."""
+    of a load. An exploration gives it the cycles of its unit."""
 
-    def __init__(self, unit, text, before, after):
+    def __init__(self, unit: str, text: str, before: str, after: str) -> None:
         self.unit, self.text, self.before, self.after = unit, text, before, after
-        self.refers, self.address, self.channel = False, None, 0
+        self.refers, self.channel, self.cycles = False, 0, 0
+        self.address: int | None = None
 
-    def refer(self, row, state):
+    def refer(self, row: int, state: State) -> int | None:
         """Makes its reference, which leads to a state; the place of the hopper that this has, or none."""
         self.refers, self.address, self.channel = True, state.addresses.get(row), part_of(state.channels, row) or 0
         return part_of(state.places, row)
@@ -107,11 +113,11 @@ class Reservation:
 class Replays:
     """What the program prints for the session's deck and a log."""
 
-    def __init__(self, program, session, answers):
+    def __init__(self, program: Program, session: Session, answers: str | Path) -> None:
         self.program, self.session, self.answers = program, session, answers
 
     @lru_cache(maxsize=None)
-    def dump(self, log):
+    def dump(self, log: str) -> list[str]:
         """The lines of the dump after a log."""
         ran = self.program.replay(log, self.session.text.encode("latin-1"))
         if ran.told:
@@ -122,11 +128,11 @@ class Replays:
             raise Fault(self.program.path, f"replay of {log} prints no dump, and ends with status {ran.status}")
         return lines
 
-    def number(self, log, line, place):
+    def number(self, log: str, line: int, place: int) -> int:
         """The number that a field of a line of the dump after a log has in octal digits, both numbered from 0."""
         return int(self.dump(log)[line].split()[place], 8)
 
-    def register(self, log, name):
+    def register(self, log: str, name: str) -> str:
         """The value of a register after a log, in octal digits without noughts in front."""
         number = int(name[1])
         line, place = {"A": (3, number + 1), "B": (4, number + 1), "X": (5 + number, 1)}[name[0]]
@@ -138,37 +144,35 @@ class Log:
     `marks` has the number of entries and the run after each event: the texts of all logs could be too long to be
     kept."""
 
-    def __init__(self):
-        self.entries, self.run, self.marks = [], 0, []
+    def __init__(self) -> None:
+        self.entries, self.run, self.marks = list[str](), 0, list[tuple[int, int]]()
 
-    def __getitem__(self, n):
+    def __getitem__(self, n: int) -> str:
         """The text of the log after the event n, from 0."""
         return self.text_of(*self.marks[n])
 
     @property
-    def text(self):
-        """The text of the log."""
+    def text(self) -> str:
         return self.text_of(*self.mark)
 
     @property
-    def mark(self):
+    def mark(self) -> tuple[int, int]:
         """The number of entries and the run now."""
         return len(self.entries), self.run
 
-    def text_of(self, entries, run):
+    def text_of(self, entries: int, run: int) -> str:
         """The text of the log up to so many entries and so many instructions."""
         return " ".join([*self.entries[:entries], *[f"I{run}"] * bool(run)]) or "none"
 
-    def add_instruction(self):
+    def add_instruction(self) -> None:
         self.run += 1
 
-    def add(self, entry):
+    def add(self, entry: str) -> None:
         """Adds an exchange or a peripheral access."""
         self.entries += [*[f"I{self.run}"] * bool(self.run), entry]
         self.run = 0
 
-    def end_event(self):
-        """Marks the end of an event."""
+    def end_event(self) -> None:
         self.marks.append(self.mark)
 
 
@@ -179,7 +183,7 @@ class Following:
     with a mark by the events. `refused` has a line for each refused event, and `ending` is the last line. `logs` has
     the log after each event. `listing` is that of the deck's source program, or none if that isn't known."""
 
-    def __init__(self, program, session, file, answers):
+    def __init__(self, program: Program, session: Session, file: str | Path | None, answers: str | None) -> None:
         """Asks the program for the answers where there is no file of them.
 
         Raises Fault where the deck is refused."""
@@ -190,27 +194,28 @@ class Following:
         self.answers = printed.removesuffix("\n").split("\n") if printed else []
         self.check_deck(ran.told.decode("latin-1").split("\n", maxsplit=1)[0].removeprefix("cdc6600: "))
         self.replays, self.log = Replays(program, session, self.file), Log()
-        self.rows, self.marks, self.gaps, self.columns, self.logs = [None], {}, {}, 0, self.log
-        self.rows_at = defaultdict(list)
-        self.refused, self.ending, self.has_accesses, self.listing = [], "", False, None
+        self.rows, self.columns, self.logs = [Reservation("", "", "", "")], 0, self.log
+        self.marks, self.gaps = dict[tuple[int, int], str](), dict[tuple[int, int], str]()
+        self.rows_at, self.refused = defaultdict[int, list[int]](list), list[str]()
+        self.ending, self.has_accesses = "", False
+        self.listing: Listing | None = None
 
     @cached_property
-    def machine(self):
-        """The machine that makes the events."""
+    def machine(self) -> Machine:
         return self.session.machine()
 
-    def check_deck(self, told):
+    def check_deck(self, told: str) -> None:
         """A fault of a line of the schedule is drawn; any other one is told."""
         found = re.match(r"E20 line (\d+)", told)
         if told and not (found and self.session.deck_end and int(found[1]) > self.session.deck_end):
             raise Fault(self.session.file, told)
 
-    def check_schedule(self):
+    def check_schedule(self) -> None:
         """Raises Fault where no schedule comes after the deck."""
         if not self.session.events:
             raise Fault(self.session.file, "no schedule comes after its deck; tools/schedule makes one")
 
-    def follow(self):
+    def follow(self) -> None:
         """Draws each event up to the schedule's end, or to a line that is none.
 
         Raises Fault where no schedule comes after the deck, or an answer doesn't fit."""
@@ -223,7 +228,7 @@ class Following:
         if not self.ending:
             self.stop(len(self.session.events), "the schedule has no end")
 
-    def take(self, event, answers):
+    def take(self, event: str, answers: list[str]) -> None:
         """Draws one event more, with the lines that answer it.
 
         Raises Fault where they don't fit."""
@@ -231,7 +236,7 @@ class Following:
         self.answers += answers
         self.draw(len(self.session.events) - 1, event)
 
-    def draw(self, n, event):
+    def draw(self, n: int, event: str) -> None:
         """Draws an event. Raises Fault where its answer doesn't fit."""
         line = f"line {self.session.deck_end + n + 1}"
         if n >= len(self.answers):
@@ -242,13 +247,13 @@ class Following:
             raise Fault(self.file, f"line {n + 1}, {self.answers[n]}, {no_answer}")
         self.log.end_event()
 
-    def stop(self, n, why):
+    def stop(self, n: int, why: str) -> None:
         """Draws that the schedule stops here. No answer may be left."""
         if n < len(self.answers):
             raise Fault(self.file, f"line {n + 1}, {self.answers[n]}, answers no event of {self.session.file}")
         self.ending = f"stops at line {self.session.deck_end + n + 1}: {why}"
 
-    def step(self, n, event):
+    def step(self, n: int, event: str) -> bool:
         """Draws an event; whether the answer fits."""
         self.gaps.update({(row, n): gap for row, gap in gaps_of(self.machine.state).items()})
         kind, said = event.split(" ")[0], self.answers[n]
@@ -261,17 +266,16 @@ class Following:
         self.refused.append(noted(n, event, said))
         return bool(re.match(r"E[0-9]+ ", said)) and code in REFUSABLE[kind].split()
 
-    def mark(self, row, n, mark):
+    def mark(self, row: int, n: int, mark: str) -> None:
         """Puts a mark into a row at an event, in place of one that is there."""
         if (row, n) not in self.marks:
             self.rows_at[n].append(row)
         self.marks[row, n] = mark
 
-    def is_refused(self, n):
-        """Whether an event was refused."""
+    def is_refused(self, n: int) -> bool:
         return is_refusal(self.answers[n])
 
-    def make(self, n, event):
+    def make(self, n: int, event: str) -> bool:
         """Has the machine make an event, and draws it; whether the machine gives the same answer."""
         kind, *fields = event.split(" ")
         row, asked = self.machine.state.about(event), self.machine.state.asked
@@ -294,7 +298,7 @@ class Following:
             self.log.add({"ppread": "R", "ppwrite": "W"}[kind] + "=".join(map(plain, fields)))
         return True
 
-    def issue(self, answer):
+    def issue(self, answer: str) -> int:
         """An issue; the row of its reservation, or that of the machine."""
         before = self.log.text
         self.log.add_instruction()
@@ -304,7 +308,7 @@ class Following:
         self.rows.append(Reservation(unit, self.machine.state.texts[int(row)], before, self.log.text))
         return int(row)
 
-    def close(self, n, kind):
+    def close(self, n: int, kind: str) -> bool:
         """Draws the last line of a schedule; whether the rest of the answers is what the program prints for the log."""
         log, rest = self.log.text, self.answers[n:]
         if kind == "drain":
@@ -323,20 +327,21 @@ class Following:
         return len(rest) == len(dump)
 
 
-def gaps_of(state):
+def gaps_of(state: State) -> dict[int, str]:
     """How the rows are drawn in a state: that of the machine while an exchange is asked for, and those of the pending
     reservations. A load in the hopper has a channel too."""
     found = {0: RESERVED} if state.asked else {}
-    for part, gap in ((state.channels, IN_CHANNEL), (state.places, IN_HOPPER), (state.units, RESERVED)):
-        found.update(dict.fromkeys(part.values(), gap))
+    parts = (state.channels.values(), IN_CHANNEL), (state.places.values(), IN_HOPPER), (state.units.values(), RESERVED)
+    for rows, gap in parts:
+        found.update(dict.fromkeys(rows, gap))
     return found
 
 
-def noted(n, line, said):
+def noted(n: int, line: str, said: str) -> str:
     """A line for what is said of an event."""
     return f"{n + 1:3d} {line:<17} {printable(said)}"
 
 
-def plain(digits):
+def plain(digits: str) -> str:
     """Octal digits without noughts in front."""
     return digits.lstrip("0") or "0"

@@ -4,8 +4,10 @@ the events are given, a minor cycle with all its events."""
 import xml.etree.ElementTree as ET
 from bisect import bisect_left
 from collections import defaultdict
+from pathlib import Path
+from typing import Iterable, Iterator, Mapping, Sequence
 
-from .following import IN_CHANNEL, IN_HOPPER, LETTER, RESERVED, Fault
+from .following import IN_CHANNEL, IN_HOPPER, LETTER, RESERVED, Fault, Following
 from .units import UNITS
 
 SVG, SPACE = "http://www.w3.org/2000/svg", "{http://www.w3.org/XML/1998/namespace}space"
@@ -39,15 +41,16 @@ class Form:
 
     With minor cycles `start` has the numbers of the first columns, up to the first issue."""
 
-    def __init__(self, following, cycles=None, start=None):
+    def __init__(self, following: Following, cycles: Sequence[int] | None = None,
+                 start: Sequence[int] | None = None) -> None:
         self.following, self.is_timed = following, cycles is not None
-        moments = cycles if self.is_timed else range(1, following.columns + 1)
-        start = (start or start_of([(following, cycles)])) if self.is_timed else []
+        moments = range(1, following.columns + 1) if cycles is None else cycles
+        start = [] if cycles is None else start or start_of([(following, cycles)])
         after = start[-1] + 1 if start else 1
         self.numbers = [*start, *range(after, max(moments, default=0) + 1)]
         columns = {number: column for column, number in enumerate(self.numbers)}
         self.column_of = [columns[moment] for moment in moments]
-        self.events = [[] for _ in self.numbers]
+        self.events: list[list[int]] = [[] for _ in self.numbers]
         for n, column in enumerate(self.column_of):
             self.events[column].append(n)
         self.labels = dict(enumerate(self.names(), EVENTS))
@@ -62,20 +65,20 @@ class Form:
         self.longest = max((len(self.mark(row, at)) for row in self.labels for at in self.columns(row)), default=1)
         self.arrange(self.wide, max(COLUMN, LETTER_WIDTH * self.longest + GAP), len(self.events))
 
-    def names(self):
+    def names(self) -> list[str]:
         """The labels of the rows, from above."""
         reserved = [f"{row:2d} {it.unit:<10} {it.text}" for row, it in enumerate(self.following.rows) if row]
         return ["cycle" if self.is_timed else "event", "", "machine", *reserved]
 
-    def arrange(self, wide, column, columns):
+    def arrange(self, wide: int, column: int, columns: int) -> None:
         """Arranges the picture for labels of so many letters, and for so many columns of a width: where the first one
         begins, how wide the picture is, and how high its rows are together."""
         self.left, self.height = LETTER_WIDTH * wide + MARGIN, LINE * len(self.labels) + MARGIN
         self.column, self.width = column, self.left + column * columns + 2 * MARGIN
 
-    def filled_cells(self):
+    def filled_cells(self) -> defaultdict[int, set[int]]:
         """The columns in which a row has a mark, or something before it, by the rows."""
-        following, cells, after = self.following, defaultdict(set), defaultdict(list)
+        following, cells, after = self.following, defaultdict[int, set[int]](set), defaultdict[int, list[int]](list)
         for column, n in enumerate(self.firsts):
             after[n].append(column)
         for row, n in following.gaps:
@@ -84,54 +87,52 @@ class Form:
             cells[row].update(self.column_of[n : n + 1])
         return cells
 
-    def columns(self, row):
+    def columns(self, row: int) -> Sequence[int]:
         """The columns of a row that may have something, from left to right."""
         return sorted(self.cells[row]) if row >= 0 else range(len(self.events))
 
-    def mark(self, row, column):
+    def mark(self, row: int, column: int) -> str:
         """What a row has in a column."""
         if row == EVENTS:
             return str(self.numbers[column])
         return "".join(self.mark_of_event(row, n) for n in self.events[column])
 
-    def mark_of_event(self, row, n):
+    def mark_of_event(self, row: int, n: int) -> str:
         """What a row has at an event."""
         if row == KINDS:
             return LETTER[self.following.session.events[n].split(" ")[0]].lower()
         return self.following.marks.get((row, n), "")
 
-    def gap(self, row, column):
+    def gap(self, row: int, column: int) -> str:
         """What a row has between a column and the one before."""
         return self.following.gaps.get((row, self.firsts[column]), "")
 
-    def text(self):
-        """The drawing as text."""
+    def text(self) -> str:
         return "".join(f"{line}\n" for line in self.lines())
 
-    def lines(self):
+    def lines(self) -> Iterator[str]:
         """The lines of the drawing as text."""
         width = max(len(str(max(self.numbers, default=0))) + 1, 4, self.longest + 1 if self.is_timed else 0)
         for row, label in self.labels.items():
             yield self.line(row, f"{label:<{self.wide}}", width).rstrip(" ")
         yield from ["", *self.last_lines, "", *self.legends]
 
-    def line(self, row, label, width):
+    def line(self, row: int, label: str, width: int) -> str:
         """A row as text: its label, and its columns of this width up to the last one that has something."""
         columns = self.columns(row)
         first, end = (columns[0], columns[-1] + 1) if columns else (0, 0)
         return label + " " * (width * first) + "".join(self.padded(row, n, width) for n in range(first, end))
 
-    def padded(self, row, column, width):
+    def padded(self, row: int, column: int, width: int) -> str:
         """The mark in a column, with what its row has before it."""
         gap = self.gap(row, column) or " "
         return (self.mark(row, column) or gap).rjust(width, gap)
 
-    def check_columns(self):
+    def check_columns(self) -> None:
         """Raises Fault where a picture has no room for all columns."""
         check_columns(self.following.session.file, len(self.events), "minor cycles" if self.is_timed else "events")
 
-    def picture(self):
-        """The drawing as a picture."""
+    def picture(self) -> str:
         self.check_columns()
         height = LINE * (len(self.labels) + len(self.last_lines) + len(self.legends) + 3)
         root = picture_of(max(self.width, LEAST_WIDTH), height)
@@ -141,17 +142,17 @@ class Form:
         self.add_lines(root, LINE * len(self.labels))
         return written(root)
 
-    def add_label(self, root, row, y=None):
+    def add_label(self, root: ET.Element, row: int, y: int | None = None) -> None:
         """Adds a row's label, at its own height or at another one."""
         if self.labels[row]:
             add_text(root, MARGIN, y or self.line_of(row), self.labels[row])
 
     @staticmethod
-    def line_of(row):
+    def line_of(row: int) -> int:
         """How far down a row is written."""
         return LINE * (row - EVENTS + 1)
 
-    def add_row(self, root, row, y=None, within=None):
+    def add_row(self, root: ET.Element, row: int, y: int | None = None, within: range | None = None) -> None:
         """Adds a row's bars, and over them its marks: at its own height or at another one, of all columns or of a range
         of them."""
         within = within or range(len(self.events))
@@ -166,11 +167,11 @@ class Form:
             colour = {"fill": REFUSED} if mark.startswith("E") else {}
             add_text(root, middle + wide * at, y, mark, {"text-anchor": "middle", **colour})
 
-    def rows_in(self, columns):
+    def rows_in(self, columns: Iterable[int]) -> list[int]:
         """The rows of some columns: those above the reservations, and those with a mark or a bar there."""
         return [row for row in self.labels if row <= 0 or not self.cells[row].isdisjoint(columns)]
 
-    def add_lines(self, root, y):
+    def add_lines(self, root: ET.Element, y: int) -> None:
         """Adds the lines below the rows, the last of which stands at a height."""
         y += LINE
         for line in self.last_lines:
@@ -178,7 +179,7 @@ class Form:
             add_text(root, MARGIN, y, line)
         self.add_legends(root, y + LINE)
 
-    def add_legends(self, root, y):
+    def add_legends(self, root: ET.Element, y: int) -> None:
         """Adds the lines that say what the marks mean, below a height. A legend has bars in its text's gaps."""
         for legend in self.legends:
             y += LINE
@@ -192,39 +193,38 @@ class UnitForm(Form):
     """The drawing with a row for each unit. A reservation has its number at its issue, and from there on a bar up to
     its store event."""
 
-    def __init__(self, following, cycles=None, start=None):
+    def __init__(self, following: Following, cycles: Sequence[int] | None = None,
+                 start: Sequence[int] | None = None) -> None:
         self.held = held_units(following)
         super().__init__(following, cycles, start)
 
-    def names(self):
+    def names(self) -> list[str]:
         """The labels of the rows, from above."""
         return ["cycle" if self.is_timed else "event", *UNITS]
 
-    def columns(self, row):
+    def columns(self, row: int) -> Sequence[int]:
         """The columns of a row that may have something: all."""
         return range(len(self.events))
 
-    def unit(self, row):
-        """The unit of a row."""
+    def unit(self, row: int) -> str:
         return self.labels[row]
 
-    def mark_of_event(self, row, n):
+    def mark_of_event(self, row: int, n: int) -> str:
         """What a row has at an event: the number of the reservation that is issued to the unit."""
         after = self.held[n + 1].get(self.unit(row), 0)
         return str(after) if after and after != self.held[n].get(self.unit(row)) else ""
 
-    def gap(self, row, column):
+    def gap(self, row: int, column: int) -> str:
         """What a row has between a column and the one before."""
         return RESERVED if row != EVENTS and self.unit(row) in self.held[self.firsts[column]] else ""
 
-    def rows_in(self, columns):
-        """The rows of some columns: all."""
+    def rows_in(self, columns: Iterable[int]) -> list[int]:
         return list(self.labels)
 
 
-def held_units(following):
+def held_units(following: Following) -> list[dict[str, int]]:
     """The reservations by the units that they hold: before each event, and at the end."""
-    found, now = [{}], {}
+    found, now = [dict[str, int]()], dict[str, int]()
     rows = {n: row for row, n in following.marks if row}
     for n in range(following.columns):
         kind, row = following.session.events[n].split(" ")[0], rows.get(n)
@@ -237,7 +237,7 @@ def held_units(following):
     return found
 
 
-def start_of(sessions):
+def start_of(sessions: Iterable[tuple[Following, Sequence[int]]]) -> list[int]:
     """The numbers of the first columns of some sessions with the minor cycles of their events: the earlier cycles with
     an event, and the cycle of the first issue."""
     issues = (cycles[n] for following, cycles in sessions for n in range(following.columns)
@@ -246,14 +246,14 @@ def start_of(sessions):
     return sorted({first, *(cycle for _, cycles in sessions for cycle in cycles if cycle < first)})
 
 
-def check_columns(file, columns, what):
+def check_columns(file: str | Path, columns: int, what: str) -> None:
     """Raises Fault where a session has too many columns to be drawn as a picture."""
     if columns > MOST_COLUMNS:
         limit = f"a picture or a page has room for {MOST_COLUMNS}; as text all are drawn"
         raise Fault(file, f"{columns} {what}, and {limit}")
 
 
-def picture_of(width, height):
+def picture_of(width: int, height: int) -> ET.Element:
     """A picture of this size with nothing but its background."""
     ET.register_namespace("", SVG)
     font = {"font-family": "monospace", "font-size": "13"}
@@ -262,19 +262,18 @@ def picture_of(width, height):
     return root
 
 
-def written(root):
-    """The text of a picture."""
+def written(root: ET.Element) -> str:
     ET.indent(root, "")
     return ET.tostring(root, encoding="unicode") + "\n"
 
 
-def add_text(root, x, y, said, attributes=None):
+def add_text(root: ET.Element, x: int, y: int, said: str, attributes: Mapping[str, str] | None = None) -> None:
     """Adds a text at a place."""
     it = ET.SubElement(root, f"{{{SVG}}}text", {"x": str(x), "y": str(y), SPACE: "preserve", **(attributes or {})})
     it.text = said
 
 
-def add_bar(root, x, y, width, gap):
+def add_bar(root: ET.Element, x: int, y: int, width: int, gap: str) -> None:
     """Adds a bar in the colour of what it stands for."""
     place = {"x": x, "y": y - BAR_RISE, "width": width, "height": BAR_HEIGHT}
     ET.SubElement(root, f"{{{SVG}}}rect", {name: str(it) for name, it in place.items()}, fill=COLOURS[gap])

@@ -4,6 +4,7 @@ import html
 import re
 from dataclasses import dataclass
 from string import Template
+from typing import Sequence
 from urllib.parse import quote
 
 from .following import Following
@@ -23,17 +24,17 @@ class Entry:
     following: Following
 
     @property
-    def sentence(self):
+    def sentence(self) -> str:
         """The first sentence of what it shows."""
         return re.split(r"\.(?= [A-Z`])", self.shown, maxsplit=1)[0]
 
     @property
-    def refusals(self):
+    def refusals(self) -> list[str]:
         """The numbers of the refusals that come in it, each once."""
         marks = {mark for mark in self.following.marks.values() if re.fullmatch(r"E[0-9]+", mark)}
         return sorted(marks, key=lambda mark: int(mark[1:]))
 
-    def row(self):
+    def row(self) -> str:
         """Its item in the list."""
         counts = f"{self.following.columns} events, {len(self.following.rows) - 1} reservations"
         says = f"<p>{marked_up(self.sentence)}.</p>" if self.shown else ""
@@ -44,18 +45,17 @@ class Entry:
         )
 
 
-def link(name, said):
+def link(name: str, said: str) -> str:
     """A link to the page of a session."""
     return f'<a href="{quote(name)}.html">{html.escape(said)}</a>'
 
 
-def index(entries):
-    """The page that leads to all of them."""
+def index(entries: Sequence[Entry]) -> str:
     items = "".join(entry.row() for entry in entries)
     return Template(read("index.html")).substitute(style=read("page.css"), items=items, count=len(entries))
 
 
-def links(names, name):
+def links(names: Sequence[str], name: str) -> str:
     """What leads from the page of a session to the others."""
     at = names.index(name)
     around = [("Before", names[at - 1]) if at else None, ("After", names[at + 1]) if at + 1 < len(names) else None]

@@ -4,9 +4,12 @@ A row of the panel is a few texts. There is one for each unit, place, channel, b
 are for the machine itself.
 """
 
+from typing import Mapping
+
 from cdc6600.asking.states import CHANNELS, OUT_OF_RANGE, PLACES, RUNNING, part_of
 from cdc6600.limits import BANKS
 
+from .retracing import View
 from .sentences import said
 from .units import NAMES
 
@@ -14,31 +17,30 @@ from .units import NAMES
 class Panel:
     """The rows of the panel for a view of a session."""
 
-    def __init__(self, view):
+    def __init__(self, view: View) -> None:
         self.state, self.rows, self.log = view.state, view.rows, view.log
 
-    def parts(self):
+    def parts(self) -> dict[str, Mapping[str, str | list[str]]]:
         """All rows by their parts: what has nothing is left out, but for the machine itself."""
         return {
             "machine": self.machine(), "units": self.units(), "places": self.places(), "channels": self.channels(),
             "banks": self.banks(), "registers": self.registers(),
         }
 
-    def labelled(self, row, *more):
+    def labelled(self, row: int, *more: str) -> list[str]:
         """A reservation's number and instruction, and more about it."""
         return [str(row), self.rows[row].text, *more]
 
-    def machine(self):
+    def machine(self) -> dict[str, str]:
         """How the machine itself is: whether it runs, what is issued next, whether an exchange is asked for."""
         asked = said("panel exchange", package=self.state.asked)
         return {"Machine": self.condition(), "Next": self.next(), "Exchange": asked, "Log": self.log}
 
-    def condition(self):
-        """Whether it runs."""
+    def condition(self) -> str:
         halt, fault = self.state.halt, self.state.fault
         return said("panel state", halt="" if halt == RUNNING else halt, fault=str(fault or ""))
 
-    def next(self):
+    def next(self) -> str:
         """The next instruction, where that can be said."""
         state, (address, parcel) = self.state, self.state.position
         if state.halt != RUNNING:
@@ -48,18 +50,18 @@ class Panel:
         text = "" if state.next == OUT_OF_RANGE else state.next
         return said("panel next", text=text, address=address, parcel=parcel if state.now.has_held else "")
 
-    def units(self):
+    def units(self) -> dict[str, list[str]]:
         """The units that are reserved, each with how far its reservation is."""
         return {unit: self.labelled(row, self.phase(row)) for unit, row in self.state.units.items()}
 
-    def phase(self, row):
+    def phase(self, row: int) -> str:
         """How far a reservation is, and which operands it waits for."""
         phase = self.state.phases[row]
         waits = [said("awaits", register=register, producer=str(producer))
                  for register, producer in self.state.awaited(row)]
         return said("panel phase", phase=phase, awaited=waits)
 
-    def places(self):
+    def places(self) -> dict[str, list[str]]:
         """The places of the hopper that are taken, each with the word that is referred to."""
         found = {}
         for place, row in sorted(self.state.places.items()):
@@ -68,7 +70,7 @@ class Panel:
             found[str(place)] = self.labelled(row, word)
         return found
 
-    def channels(self):
+    def channels(self) -> dict[str, list[str]]:
         """The load channels that a load has."""
         found = {}
         for channel, row in sorted(self.state.channels.items()):
@@ -76,11 +78,11 @@ class Panel:
             found[str(channel)] = self.labelled(row, said("panel load", place=place))
         return found
 
-    def banks(self):
+    def banks(self) -> dict[str, list[str]]:
         """The busy banks, each with the reservation whose reference it took."""
         return {str(bank): self.labelled(row) for bank, row in sorted(self.state.banks.items())}
 
-    def registers(self):
+    def registers(self) -> dict[str, list[str]]:
         """The reserved registers, each with the reservation that is to write it, and that one's unit."""
         found = {}
         for register, row in sorted(self.state.registers.items()):

@@ -2,7 +2,9 @@
 
 from dataclasses import dataclass
 
-from cdc6600.asking.states import State
+from cdc6600.asking.states import Refusal, State
+
+from .following import Following, Reservation
 
 
 @dataclass(frozen=True)
@@ -10,7 +12,7 @@ class View:
     """What is shown of a machine: a state, the session's reservations by their numbers, and the log up to there."""
 
     state: State
-    rows: list
+    rows: list[Reservation]
     log: str
 
 
@@ -18,11 +20,11 @@ class Retracing:
     """The states of a session: the one before its first event, and the one after each event up to which it has gone.
     `refusals` has for each refused event what the machine would refuse it for, or none if it would make it."""
 
-    def __init__(self, following):
+    def __init__(self, following: Following) -> None:
         self.following, self.machine = following, following.session.machine()
-        self.states, self.refusals = [self.machine.state], {}
+        self.states, self.refusals = [self.machine.state], dict[int, Refusal | None]()
 
-    def go_on(self):
+    def go_on(self) -> None:
         """Goes on by an event."""
         n = len(self.states) - 1
         event = self.following.session.events[n]
@@ -34,21 +36,20 @@ class Retracing:
             self.machine.make(event)
         self.states.append(self.machine.state)
 
-    def go_to(self, n):
+    def go_to(self, n: int) -> None:
         """Goes on until so many events are over."""
         while len(self.states) <= n:
             self.go_on()
 
-    def log(self, n):
-        """The log after n events."""
+    def log(self, n: int) -> str:
         return self.following.logs[n - 1] if n else "none"
 
-    def view(self, n):
+    def view(self, n: int) -> View:
         """What is shown after n events."""
         return View(self.states[n], self.following.rows, self.log(n))
 
 
-def retraced(following):
+def retraced(following: Following) -> Retracing:
     """The states of a session that was followed, up to its end."""
     found = Retracing(following)
     found.go_to(following.columns)

@@ -1,9 +1,11 @@
 """The tables of a page that stand for a whole session."""
 
 import html
+from typing import Iterable, Sequence
 
 from cdc6600.shared.telling import sentence
-from cdc6600.timing.reservations import BY_CYCLE, BY_EVENT, HEADS
+from cdc6600.timing.reservations import BY_CYCLE, BY_EVENT, HEADS, Row
+from cdc6600.timing.totals import Totals
 from cdc6600.timing.waits import CAUSES
 
 from .units import NAMES
@@ -17,9 +19,10 @@ COUNTS = {
 WAITS = ("Waits of the issuing position", "Waits of the reservations")
 
 
-def totals(sessions, names):
+def totals(sessions: Sequence[Totals], names: Iterable[str]) -> str:
     """The table of the totals of sessions, with a column for each."""
-    rows = [(name, [getattr(it, field) for it in sessions]) for name, field in COUNTS.items()]
+    rows: list[tuple[str, list[object]]] = []
+    rows += [(name, [getattr(it, field) for it in sessions]) for name, field in COUNTS.items()]
     for at, head in enumerate(WAITS):
         waits = [it.waits[at] for it in sessions]
         rows.append((head, [it.total() for it in waits]))
@@ -32,18 +35,17 @@ def totals(sessions, names):
     )
 
 
-def cells(values):
-    """The cells of a row."""
+def cells(values: Iterable[object]) -> str:
     return "".join(f"<td>{html.escape(str(value))}</td>" for value in values)
 
 
-def card(name, title, text):
+def card(name: str, title: str, text: str) -> str:
     """A part of a page with a title, which isn't shown while answers are hidden."""
     head = f'<h2 id="title-{name}">{title}</h2>'
     return f'<section class="card answers" aria-labelledby="title-{name}">\n{head}\n{text}</section>\n'
 
 
-def reservations(found, is_timed, name=""):
+def reservations(found: Iterable[Row], is_timed: bool, name: str = "") -> str:
     """The table of the reservations, in a box that scrolls. A page with several such tables gives each one a name."""
     heads = "".join(f'<th scope="col">{sentence(head)}</th>' for head in HEADS)
     rows = "".join(reservation(row) for row in found)
@@ -55,7 +57,7 @@ def reservations(found, is_timed, name=""):
     )
 
 
-def reservation(row):
+def reservation(row: Row) -> str:
     """The row of a reservation, whose unit has its name."""
     number, text, unit, *others = row.cells
     return f'<tr><th scope="row">{number}</th>{cells([text, NAMES[unit], *others])}</tr>\n'

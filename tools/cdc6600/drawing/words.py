@@ -4,12 +4,15 @@ Values are those of the registers and words at the event. One that no register h
 the program's theorem it is the machine's.
 """
 
-from cdc6600.asking.states import OUT_OF_RANGE, RUNNING, Refusal, part_of
+from typing import Callable
+
+from cdc6600.asking.states import OUT_OF_RANGE, RUNNING, Refusal, State, part_of
 from cdc6600.limits import BANKS
 from cdc6600.shared.telling import sentence
 
 from .following import plain
 from .refusing import why
+from .retracing import Retracing
 from .sentences import reservation, reservations, said
 from .units import NAMES
 
@@ -17,45 +20,43 @@ from .units import NAMES
 class Words:
     """What is said of the events of a session that is followed, with the states before and after each."""
 
-    def __init__(self, retracing):
+    def __init__(self, retracing: Retracing) -> None:
         self.retracing, self.states, self.following = retracing, retracing.states, retracing.following
         self.replays, self.rows = self.following.replays, self.following.rows
 
-    def told(self, n):
+    def told(self, n: int) -> str:
         """What is said of the event n, from 0, and that it is refused, if it is."""
         return said("refused", why=self.said(n)) if self.following.is_refused(n) else self.said(n)
 
-    def said(self, n):
+    def said(self, n: int) -> str:
         """What is said of the event n, from 0."""
         event, answer = self.following.session.events[n], self.following.answers[n]
         kind, *fields = event.split(" ")
         if self.following.is_refused(n):
             return sentence(self.refused(n, event, answer))
-        tell = {
+        tell: dict[str, Callable[..., str]] = {
             "issue": self.issue, "read": self.read, "finish": self.finish, "store": self.store, "accept": self.accept,
             "return": self.load_return, "bank": self.bank, "ask": self.ask, "exchange": self.exchange,
             "ppread": self.peripheral_read, "ppwrite": self.peripheral_write, "end": self.end, "drain": self.drain,
         }
         return sentence(tell[kind](n, *fields))
 
-    def refused(self, n, event, answer):
+    def refused(self, n: int, event: str, answer: str) -> str:
         """Why an event is refused. Where the machine would say something else, the answer alone is told."""
         expected = self.retracing.refusals[n]
-        is_expected = expected is not None and expected.answer == answer
-        view, core = self.retracing.view(n), self.following.session.core
-        return why(view, core, event, expected if is_expected else Refusal(answer))
+        refusal = expected if expected and expected.answer == answer else Refusal(answer)
+        return why(self.retracing.view(n), self.following.session.core, event, refusal)
 
-    def about(self, row):
-        """A reservation."""
+    def about(self, row: int) -> str:
         return reservation(self.rows, row)
 
     @staticmethod
-    def position(state):
+    def position(state: State) -> str:
         """Where the program is in a state."""
         address, parcel = state.position
         return said("position", address=address, parcel=parcel if int(parcel) else "")
 
-    def issue(self, n):
+    def issue(self, n: int) -> str:
         """An issue, to a unit or without one."""
         answered, after = self.following.answers[n].split(" "), self.states[n + 1]
         if len(answered) == 1:
@@ -69,19 +70,19 @@ class Words:
         )
         return f"{issued}{self.source(n)}"
 
-    def source(self, n):
+    def source(self, n: int) -> str:
         """The line of the source program from which the instruction of an issue is, if that is known."""
         text = self.following.listing and self.following.listing.next_text(self.states[n])
         return said("source", text=text) if text else ""
 
-    def issue_alone(self, n):
+    def issue_alone(self, n: int) -> str:
         """An issue that reserves no unit: a pass, or one that halts the machine."""
         halt, text = self.states[n + 1].halt, self.states[n].next
         if halt == RUNNING:
             return said("issue of a pass", text=text)
         return said("issue that halts", what=self.halting(n, text), halt=halt)
 
-    def halting(self, n, text):
+    def halting(self, n: int, text: str) -> str:
         """The issue that halts the machine."""
         if text == OUT_OF_RANGE:
             return said("issue out of range", position=self.position(self.states[n]))
@@ -89,15 +90,13 @@ class Words:
             return said("issue of a straddle")
         return said("issue of an opcode", opcode=text[1:]) if text[0] == "?" else said("issue of a stop", text=text)
 
-    def read(self, n, unit):
-        """A unit reads."""
+    def read(self, n: int, unit: str) -> str:
         before = self.states[n]
         row = before.units[unit]
         values = [said("is", register=register, value=before.register(register)) for register in before.operands(row)]
         return said("read" if values else "read of nothing", unit=NAMES[unit], it=self.about(row), values=values)
 
-    def finish(self, n, unit):
-        """A unit has its value."""
+    def finish(self, n: int, unit: str) -> str:
         row = self.states[n].units[unit]
         if unit == "branch":
             return said("finish of a branch", unit=NAMES[unit], it=self.about(row))
@@ -105,8 +104,7 @@ class Words:
         value = self.replays.register(self.rows[row].after, register) if register else ""
         return said("finish", unit=NAMES[unit], it=self.about(row), register=register, value=value)
 
-    def store(self, n, unit):
-        """A unit stores, and is free."""
+    def store(self, n: int, unit: str) -> str:
         before, after = self.states[n : n + 2]
         row = before.units[unit]
         becomes = [said("becomes", register=register, value=after.register(register))
@@ -115,63 +113,54 @@ class Words:
         becomes.append(said("free", unit=NAMES[unit]))
         return said("store", becomes=becomes, reference=self.entered(n, row) if self.rows[row].refers else "")
 
-    def entered(self, n, row):
+    def entered(self, n: int, row: int) -> str:
         """What a reference does at the store event of its unit."""
         after, channel = self.states[n + 1], str(self.rows[row].channel or "")
         place = part_of(after.places, row)
         if place is None:
             return said("reference out of range", channel=channel, fault=after.fault == row)
-        return said("reference", channel=channel, word=self.word(row), place=str(place))
+        return said("reference", channel=channel, word=self.word(after.addresses[row]), place=str(place))
 
-    def word(self, row):
-        """The word of a reservation's reference, with its bank."""
-        address = self.rows[row].address
+    @staticmethod
+    def word(address: int) -> str:
+        """The word of a reference, with its bank."""
         return said("word", address=f"{address:o}", bank=str(address % BANKS))  # E13
 
-    def accept(self, n, place):
-        """A bank takes a reference."""
+    def accept(self, n: int, place: str) -> str:
         row = self.states[n].places[int(place)]
-        it = self.rows[row]
+        it, address = self.rows[row], self.states[n].addresses[row]
         if it.channel:
             effect = {"loaded": plain(self.states[n + 1].loaded[row]), "channel": str(it.channel)}
         else:
             is_link = it.unit == "branch"
             effect = {"stored": said("link") if is_link else self.replays.register(it.after, f"X{it.text[2]}")}
-        return said("accept", bank=str(it.address % BANKS), it=self.about(row), address=f"{it.address:o}",  # E13
+        return said("accept", bank=str(address % BANKS), it=self.about(row), address=f"{address:o}",  # E13
                     **effect)
 
-    def load_return(self, n, channel):
-        """A load returns."""
+    def load_return(self, n: int, channel: str) -> str:
         row = self.states[n].channels[int(channel)]
         register = f"X{int(channel)}"
         return said("return", it=self.about(row), register=register, value=self.states[n + 1].register(register))
 
-    def bank(self, _n, bank):
-        """A bank is freed."""
+    def bank(self, _n: int, bank: str) -> str:
         return said("bank", bank=str(int(bank)))
 
-    def ask(self, n, _package):
-        """An exchange is asked for."""
+    def ask(self, n: int, _package: str) -> str:
         return said("ask", package=self.states[n + 1].asked, runs=self.states[n].halt == RUNNING)
 
-    def exchange(self, n):
-        """An exchange is made."""
+    def exchange(self, n: int) -> str:
         after = self.states[n + 1]
         return said("exchange", package=self.states[n].asked, position=self.position(after),
                     reference=f"{after.now.ra:o}", length=f"{after.now.fl:o}")
 
-    def peripheral_read(self, n, address):
-        """A peripheral processor reads."""
+    def peripheral_read(self, n: int, address: str) -> str:
         return said("ppread", address=plain(address), word=plain(self.following.answers[n].split(" ")[1]))
 
-    def peripheral_write(self, _n, address, word):
-        """A peripheral processor writes."""
+    def peripheral_write(self, _n: int, address: str, word: str) -> str:
         return said("ppwrite", address=plain(address), word=plain(word))
 
-    def end(self, n):
-        """The schedule ends."""
+    def end(self, n: int) -> str:
         return said("end", pending=reservations(self.rows, self.states[n].pending))
 
-    def drain(self, n):
-        """The machine is drained."""
+    def drain(self, n: int) -> str:
         return said("drain", numbers=[str(row) for row in self.states[n].pending])

@@ -25,6 +25,7 @@ from cdc6600.shared.decks import FOLDER as DECKS
 from cdc6600.shared.decks import cells_of, decks, sessions, shown_by_sessions
 from cdc6600.shared.instructions import ROWS
 from cdc6600.shared.program import ROOT
+from cdc6600.shared.telling import sentence
 from cdc6600.timing.reservations import HEADS
 from cdc6600.timing.times import read_times
 
@@ -36,24 +37,23 @@ EXPORTED = re.compile(r"^export (\{.*\};)?", re.MULTILINE)
 FIRST = "two-adds-code"
 
 
-def read(file):
-    """The text of a file."""
+def read(file: Path) -> str:
     return file.read_text(encoding="utf-8")
 
 
-def plain(cell):
+def plain(cell: str) -> str:
     """What a cell of a page in Markdown says, as a sentence."""
     said = re.sub(r"\[([^]]*)\]\([^)]*\)", r"\1", cell).replace("`", "")
     return said[:1].upper() + said[1:] + "." * (not said.endswith("."))
 
 
-def shown_by_decks():
+def shown_by_decks() -> dict[str, str]:
     """What each deck shows, by its name, as decks/README.md says."""
     rows = [cells for cells in cells_of(DECKS / "README.md", "Decks") if cells[0].startswith("`")]
     return {name: cells[1] for cells in rows for name in re.findall(r"`([^`]+)`", cells[0])}
 
 
-def examples():
+def examples() -> dict[str, list[dict[str, str]]]:
     """The examples by their kinds: the names, what they show, and their texts."""
     shown, sources = shown_by_decks(), sorted((DECKS / "source").glob("*.source"))
     ordered = sorted(decks(), key=lambda it: (it.name != FIRST, it.name))
@@ -64,34 +64,34 @@ def examples():
     }
 
 
-def comment(text):
+def comment(text: str) -> str:
     """The first sentence of the comment with which a source program begins, or nothing."""
     said = " ".join(line[2:] for line in takewhile(lambda line: line.startswith("* "), text.splitlines()))
     return f"{said.split('. ')[0].removesuffix('.')}." if said else ""
 
 
-def example(file, about):
+def example(file: Path, about: str) -> dict[str, str]:
     """An example, which is offered by the name of its file."""
     return {"name": file.name, "about": about, "text": read(file)}
 
 
-def instructions():
+def instructions() -> list[dict[str, object]]:
     """The rows of the instruction table as the assembler in the page uses them."""
     return [{"code": row.code, "text": row.text, "long": row.is_long} for row in ROWS.values()]
 
 
-def forms():
+def forms() -> list[dict[str, str]]:
     """The forms of instructions in a source program, as the assembler in the page uses them."""
     return [{"operation": pattern(it.operation), "operands": pattern(it.operands), "shown": it.shown,
              "code": it.row.code if it.row else "", "standsFor": it.stands_for} for it in FORMS]
 
 
-def pattern(compiled):
+def pattern(compiled: re.Pattern[str]) -> str:
     """A pattern as JavaScript writes it."""
     return compiled.pattern.replace("(?P<", "(?<")
 
 
-def given():
+def given() -> dict[str, object]:
     """What the scripts read."""
     sizes = {"least": limits.LEAST_WORDS, "words": limits.MOST_WORDS, "package": limits.PACKAGE_WORDS,
              "shows": limits.MOST_SHOWS, "shown": WORDS}
@@ -101,8 +101,7 @@ def given():
             "numbers": {kind: list(numbers[kind]) for kind in numbers}}
 
 
-def script(module):
-    """The whole script, with a module's bytes."""
+def script(module: bytes) -> str:
     wrapper = f"(() => {{\n{EXPORTED.sub('', read(WRAPPER))}\nreturn {{ Library, canRun }};\n}})()"
     data = json.dumps(given(), ensure_ascii=True, separators=(",", ":"))
     begins = f'const MODULE = "{base64.b64encode(module).decode()}";\nconst GIVEN = {data};\n'
@@ -110,20 +109,19 @@ def script(module):
     return (drawing.read("panel.js") + begins + "".join(texts)).replace("</", "<\\/")
 
 
-def panel():
+def panel() -> str:
     """The panel's frame. The script replaces the row of the word 0 by rows for the words that a deck shows."""
     return drawing.panel_frame(dict.fromkeys([*REGISTERS, "000000"], "0"))
 
 
-def page(module):
-    """The text of the page with a module's bytes."""
+def page(module: bytes) -> str:
     style, text = drawing.read("page.css") + read(FOLDER / "page.css"), script(module)
-    heads = "".join(f'<th scope="col">{drawing.sentence(head)}</th>' for head in HEADS)
+    heads = "".join(f'<th scope="col">{sentence(head)}</th>' for head in HEADS)
     return Template(read(FOLDER / "page.html")).substitute(
         style=style, script=text, panel=panel(), heads=heads, style_sum=sum_of(style), script_sum=sum_of(text),
     )
 
 
-def sum_of(text):
+def sum_of(text: str) -> str:
     """The checksum by which the policy allows a style or a script."""
     return f"sha256-{base64.b64encode(hashlib.sha256(text.encode()).digest()).decode()}"

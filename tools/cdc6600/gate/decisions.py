@@ -3,7 +3,9 @@ checks it.
 """
 
 import re
+from typing import Iterable
 
+from cdc6600.crates.crate import Crate
 from cdc6600.shared.program import ROOT
 
 PAGE = "docs/DECISIONS.md"
@@ -23,7 +25,7 @@ STRUCT = re.compile(r"^pub struct (\w+)[^\n;(]*\{\n(.*?)^\}", re.DOTALL | re.MUL
 FIELD = re.compile(r"^ +(?:pub(?:\([^)]*\))? )?(\w+):", re.MULTILINE)
 
 
-def names_with_parts(crates):
+def names_with_parts(crates: Iterable[Crate]) -> set[str]:
     """The names with parts that the crates' sources declare: functions with their type or crate, variants and
     fields."""
     names = set()
@@ -38,13 +40,13 @@ def names_with_parts(crates):
     return names
 
 
-def words_of_tools():
+def words_of_tools() -> set[str]:
     """The words of the code of tools and tests."""
     files = (file for folder in ("tools", "tests") for file in (ROOT / folder).rglob("*.py"))
     return {word for file in files for word in WORD.findall(file.read_text(encoding="utf-8"))}
 
 
-def faults_of_beginning(lines):
+def faults_of_beginning(lines: list[str]) -> list[str]:
     """What is wrong with the page before the first row of its table."""
     if lines[0] != TITLE or HEADING not in lines:
         return [f"{PAGE}:1: the page begins with `{TITLE}`, and its first section is `{HEADING}`"]
@@ -60,7 +62,7 @@ def faults_of_beginning(lines):
     return faults
 
 
-def rows(lines):
+def rows(lines: list[str]) -> list[tuple[int, str]]:
     """The rows of the table, each with its number."""
     found = []
     for number, line in enumerate(lines[lines.index(HEAD[1]) + 1 :], lines.index(HEAD[1]) + 2):
@@ -70,7 +72,7 @@ def rows(lines):
     return found
 
 
-def fault_of_name(text, words, parted):
+def fault_of_name(text: str, words: set[str], parted: set[str]) -> str | None:
     """What is wrong with a name in backquotes: nothing if it is there, or None if it is neither a path nor an item."""
     if PATH.fullmatch(text):
         is_there = any(ROOT.glob(text)) if "*" in text else (ROOT / text).exists()
@@ -82,7 +84,7 @@ def fault_of_name(text, words, parted):
     return "" if is_there else f"no source in crates/ or tools/ has `{item[1]}`"
 
 
-def faults_of_row(number, line, words, parted):
+def faults_of_row(number: int, line: str, words: set[str], parted: set[str]) -> list[str]:
     """What is wrong with a row of the table."""
     cells = line.strip("|").split("|")
     if len(cells) != 3 or not all(cell.strip() for cell in cells):
@@ -93,7 +95,7 @@ def faults_of_row(number, line, words, parted):
     return [f"{PAGE}:{number}: {fault}" for fault in found if fault]
 
 
-def faults_of_decisions(pages, crates, words):
+def faults_of_decisions(pages: list[str], crates: Iterable[Crate], words: set[str]) -> list[str]:
     """What is wrong with the page of decisions, among the pages of the repository; `words` are those of the crates'
     code."""
     if [page for page in pages if page.endswith("DECISIONS.md")] != [PAGE]:

@@ -22,17 +22,17 @@ FILES = Files()
 FAULTS = []
 
 
-def fault(where, what):
+def fault(where: str, what: str) -> None:
     FAULTS.append(f"{where}: {what}")
 
 
-def is_there(where, path):
+def is_there(where: str, path: str) -> bool:
     if path.rstrip("/") not in FILES.paths:
         fault(where, f"there is no {path.rstrip('/')}")
     return path.rstrip("/") in FILES.paths
 
 
-def check_definitions(where, name, rest):
+def check_definitions(where: str, name: str, rest: str) -> None:
     """Definitions: `crate/File.antt: name, name`."""
     if is_there(where, placed(name, "specs")):
         for it in re.split(", *", rest):
@@ -40,9 +40,9 @@ def check_definitions(where, name, rest):
                 fault(where, f"{placed(name, 'specs')} doesn't define {it}")
 
 
-def check_functions(where, name, rest):
+def check_functions(where: str, name: str, rest: str) -> list[tuple[str, str]]:
     """Functions: `crate/file.rt: function (clause, clause), Type::function`. Gives those that are named."""
-    path, found = placed(name, "src"), []
+    path, found = placed(name, "src"), list[tuple[str, str]]()
     if not is_there(where, path):
         return found
     functions, unread = functions_in(rest)
@@ -59,7 +59,7 @@ def check_functions(where, name, rest):
     return found
 
 
-def check_item(where, column, item):
+def check_item(where: str, column: str, item: str) -> list[tuple[str, str]]:
     """One thing that a cell names; the functions of contracts among them are given."""
     name, _, rest = item.partition(": ")
     has_names = column in ("Definition", "Contract", "Code")
@@ -77,12 +77,12 @@ def check_item(where, column, item):
     return []
 
 
-def check_row(where, line):
+def check_row(where: str, line: str) -> None:
     """A row of a table of rules."""
-    cells = line.split("|")[1:]
-    if len(cells) != 8:
-        fault(where, f"a row has seven cells, and not {len(cells) - 1}")
-    cells = dict(zip(COLUMNS, [*cells[1:], *[""] * len(COLUMNS)]))
+    _, _, *found = line.split("|")
+    if len(found) != 7:
+        fault(where, f"a row has seven cells, and not {len(found)}")
+    cells = dict(zip(COLUMNS, [*found, *[""] * len(COLUMNS)]))
     promising = []
     for column, cell in cells.items():
         for item in items_in(cell):
@@ -98,7 +98,7 @@ def check_row(where, line):
         fault(where, "no source is named")
 
 
-def check_tables():
+def check_tables() -> None:
     """Every row of the tables of rules."""
     count = 0
     for number, line in lines_of_rules():
@@ -113,7 +113,7 @@ def check_tables():
         fault(PAGE, "there are no rules")
 
 
-def check_labels():
+def check_labels() -> None:
     """What `tools/where` finds of each refusal."""
     rules = Rules(FILES)
     for number, label in LABELS.items():
@@ -124,7 +124,7 @@ def check_labels():
             fault(PAGE, f"no test and no deck names {number}")
 
 
-def main():
+def main() -> int:
     page = (ROOT / PAGE).read_text(encoding="utf-8")
     check_tables()
     check_labels()

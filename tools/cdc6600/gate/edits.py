@@ -19,8 +19,7 @@ from cdc6600.wrong_bodies.edits import UNSURE, read_bodies
 MOST_UNSURE = 20
 
 
-def main():
-    """Prints the faults of the edits of all crates."""
+def main() -> int:
     table = Table(ROOT)
     faults, unsure = [], 0
     for name in table.lines:

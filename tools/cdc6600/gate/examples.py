@@ -11,7 +11,7 @@ PAGE, TEST = "docs/work/threads.md", "crates/lock_tests/src/example_tests.rt"
 FENCE, RUST = "```", "```rust"
 
 
-def blocks_of(lines):
+def blocks_of(lines: list[str]) -> list[tuple[int, list[str]]]:
     """The blocks of Rust in a page, each with the number of the line that begins it."""
     fences = [number for number, line in enumerate(lines, 1) if line.startswith(FENCE)]
     return [
@@ -20,7 +20,7 @@ def blocks_of(lines):
     ]
 
 
-def main():
+def main() -> int:
     source = (ROOT / TEST).read_text(encoding="utf-8")
     blocks = blocks_of((ROOT / PAGE).read_text(encoding="utf-8").split("\n"))
     missing = [number for number, block in blocks if "".join(f"{line}\n" for line in block) not in source]

@@ -42,8 +42,9 @@ import time
 from concurrent.futures import ThreadPoolExecutor
 from datetime import date
 from pathlib import Path
+from typing import Any, Callable, Mapping, Sequence
 
-from cdc6600.checks.debian import how_to_install, missing, names_of, provide
+from cdc6600.checks.debian import Needed, how_to_install, missing, names_of, provide
 from cdc6600.shared.program import ROOT
 
 from .longest import Longest
@@ -58,20 +59,20 @@ PROGRAM = "crates/operator_main/out/operator_main"
 LIBRARY = "crates/embedding/out"
 PROOFS = re.compile(r"(\d+) passed, (\d+) failed")
 TRIED = re.compile(r"(\d+) wrong bodies, (\d+) not refused, (\d+) can't tell")
-PIPED = {"stdout": subprocess.PIPE, "stderr": subprocess.STDOUT, "text": True, "errors": "replace"}
+PIPED: dict[str, Any] = {"stdout": subprocess.PIPE, "stderr": subprocess.STDOUT, "text": True, "errors": "replace"}
 # How a check says that it didn't try something.
 LEFT_OUT = " left out: "
 # A check takes up to 4.3 GB.
 MEMORY_OF_A_CHECK = 5_000_000
 
 
-def processor_seconds():
+def processor_seconds() -> float:
     """What all commands that have ended took."""
     used = resource.getrusage(resource.RUSAGE_CHILDREN)
     return used.ru_utime + used.ru_stime
 
 
-def is_silent(name):
+def is_silent(name: str) -> bool:
     """Whether a check finds nothing: it ends with 0. What it says is printed where it doesn't, or leaves a part out."""
     ran = subprocess.run(command(name), **PIPED, check=False)
     if ran.returncode or LEFT_OUT in ran.stdout:
@@ -79,12 +80,13 @@ def is_silent(name):
     return ran.returncode == 0
 
 
-def counted(words, pattern, environment=None):
+def counted(words: list[str], pattern: re.Pattern[str],
+            environment: Mapping[str, str] | None = None) -> tuple[int, ...]:
     """Runs a command, prints what it says, and gives the numbers of its last line, of which the second is how many
     failed. One that ends in another way has failed once."""
     numbers = None
     with subprocess.Popen(words, **PIPED, env=environment) as ran:
-        for line in ran.stdout:
+        for line in ran.stdout or ():
             print(line, end="", flush=True)
             numbers = pattern.fullmatch(line.strip())
     if not numbers:
@@ -96,12 +98,13 @@ def counted(words, pattern, environment=None):
 class Gate:
     """The parts that were gone through: what passed, what failed, and how long each took."""
 
-    def __init__(self):
-        self.passed, self.failed, self.took, self.unsure = 0, 0, [], None
-        self.left_out = {}
+    def __init__(self) -> None:
+        self.passed, self.failed, self.took = 0, 0, list[tuple[str, float, float]]()
+        self.unsure: int | None = None
+        self.left_out: dict[str, list[Needed]] = {}
         self.longest = Longest()
 
-    def part(self, name, work):
+    def part(self, name: str, work: Callable[[], tuple[int, ...]]) -> None:
         """Goes through a part, whose work gives what passed and what failed."""
         begun, used = time.monotonic(), processor_seconds()
         passed, failed = work()
@@ -109,7 +112,7 @@ class Gate:
         self.failed += failed
         self.took.append((name, time.monotonic() - begun, processor_seconds() - used))
 
-    def silent(self, names):
+    def silent(self, names: Sequence[str]) -> tuple[int, int]:
         """How many of the checks, side by side, find nothing, and how many do. Those that need a program which isn't
         installed are left out."""
         lacking = {name: missing(name) for name in names}
@@ -118,7 +121,7 @@ class Gate:
             found = list(pool.map(is_silent, (name for name in names if not lacking[name])))
         return found.count(True), found.count(False)
 
-    def end(self):
+    def end(self) -> int:
         """Prints the longest checks, the times and the count; the status."""
         for line in self.longest.end():
             print(line)
@@ -132,7 +135,7 @@ class Gate:
         return 1 if self.failed else 0
 
 
-def proofs(is_anew):
+def proofs(is_anew: bool) -> tuple[int, ...]:
     """`rt ci` starts a check only where there is memory for what it may need at most, by its size. With the two largest
     beside each other processors stay idle; where there is memory for a check on each, all are used."""
     environment, processors = dict(os.environ), len(os.sched_getaffinity(0))
@@ -146,7 +149,7 @@ def proofs(is_anew):
     return passed, failed
 
 
-def library():
+def library() -> tuple[int, int]:
     """Builds the library, which `rt ci` doesn't: the tools ask it, and each would build it first and say so. How many
     builds passed and failed."""
     ran = subprocess.run(["tools/build-library", LIBRARY], **PIPED, check=False)
@@ -155,26 +158,27 @@ def library():
     return (0, 1) if ran.returncode else (1, 0)
 
 
-def bodies(gate, asked):
+def bodies(gate: Gate, asked: set[str]) -> tuple[int, int]:
     """The wrong bodies, and beside them the runner's own tests and the library: how many were refused, and how many
     weren't."""
     with ThreadPoolExecutor(2) as pool:
         others = [pool.submit(gate.silent, [BODIES]), pool.submit(library)]
-        tried, let_through, gate.unsure = counted([RUNNER, "--after-rt-ci", "--once", *sorted(asked)], TRIED)
+        tried, let_through, unsure = counted([RUNNER, "--after-rt-ci", "--once", *sorted(asked)], TRIED)
         passed, failed = (sum(numbers) for numbers in zip(*(it.result() for it in others)))
+    gate.unsure = unsure
     if "--all" in asked and not failed + let_through:
-        note_all(f"{tried} wrong bodies, {let_through} not refused, {gate.unsure} can't tell")
+        note_all(f"{tried} wrong bodies, {let_through} not refused, {unsure} can't tell")
     print(age_of_all(), flush=True)
-    return passed + max(tried - let_through - gate.unsure, 0), failed + let_through
+    return passed + max(tried - let_through - unsure, 0), failed + let_through
 
 
-def note_all(found):
+def note_all(found: str) -> None:
     """Notes that all wrong bodies were tried, of which commit and what was found."""
     commit = subprocess.check_output(["git", "describe", "--always", "--dirty"], text=True).strip()
     Path(ALL).write_text(f"{date.today()} {commit}: {found}\n", encoding="utf-8")
 
 
-def age_of_all():
+def age_of_all() -> str:
     """How long ago all wrong bodies were last tried, and of which commit."""
     try:
         day, commit, *_ = Path(ALL).read_text(encoding="utf-8").replace(":", "").split()
@@ -183,13 +187,13 @@ def age_of_all():
         return f"{ALL} doesn't say when all wrong bodies were last tried"
 
 
-def changed():
+def changed() -> tuple[int, int]:
     """What changed since the last look, by the work that was kept of it."""
     ended = subprocess.run(["rt", "all", "check"], check=False).returncode
     return (0, 1) if ended else (1, 0)
 
 
-def whole(gate, asked):
+def whole(gate: Gate, asked: set[str]) -> None:
     """Every part, up to one in which something fails."""
     if told := provide():
         print(told, flush=True)
@@ -201,13 +205,13 @@ def whole(gate, asked):
         gate.part("decks", lambda: gate.silent((*DECKS, *BUILDING)))
 
 
-def quick(gate):
+def quick(gate: Gate) -> None:
     """The parts of a look in between."""
     gate.part("small checks", lambda: gate.silent(SMALL))
     gate.part("what changed", changed)
 
 
-def main():
+def main() -> int:
     os.chdir(ROOT)
     gate, words = Gate(), sys.argv[1:]
     if words == ["quick"]:

@@ -15,7 +15,7 @@ from cdc6600.shared.program import ROOT
 PAGES = (calls, crate_map, checks, manual_page)
 
 
-def main():
+def main() -> int:
     """Compares the pages with what the sources give, or writes them."""
     is_writing, faults = sys.argv[1:] == ["--write"], []
     for page in PAGES:

@@ -8,6 +8,7 @@ Run it after a change of a page.
 
 import re
 import subprocess
+from typing import Iterator
 
 from cdc6600.shared.program import ROOT
 
@@ -18,13 +19,13 @@ TARGET = re.compile(r"(?<=\])\([^)\s]*\)")
 HEADING = re.compile(r"#+ |\*\*[^*]+\*\*$")
 
 
-def pages():
+def pages() -> list[str]:
     """The pages of the repository, by their paths."""
     listed = subprocess.run(["git", "ls-files", "*.md"], cwd=ROOT, check=True, capture_output=True, text=True)
     return [path for path in listed.stdout.splitlines() if (ROOT / path).is_file()]
 
 
-def lines_of_text(lines):
+def lines_of_text(lines: list[str]) -> Iterator[tuple[int, str, str]]:
     """The lines of a page outside of blocks of code between fences: each with its number and the line before it."""
     is_code, before = False, ""
     for number, line in enumerate(lines, 1):
@@ -35,7 +36,7 @@ def lines_of_text(lines):
         before = line
 
 
-def faults_of(page):
+def faults_of(page: str) -> Iterator[str]:
     """What is wrong with the layout of a page, a text for each line."""
     for number, before, line in lines_of_text((ROOT / page).read_text(encoding="utf-8").split("\n")):
         width = len(TARGET.sub("", line))
@@ -45,7 +46,7 @@ def faults_of(page):
             yield f"{page}:{number}: no empty line before the heading"
 
 
-def main():
+def main() -> int:
     faults = [fault for page in pages() for fault in faults_of(page)]
     print("\n".join(faults), end="\n" if faults else "")
     return 1 if faults else 0

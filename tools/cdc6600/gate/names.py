@@ -23,8 +23,10 @@ Run it after a change of names, or of where files are.
 import re
 import subprocess
 from functools import cache
+from pathlib import Path
+from typing import Iterator
 
-from cdc6600.crates.crate import crates
+from cdc6600.crates.crate import Crate, crates
 from cdc6600.crates.table import Table
 from cdc6600.gate.decisions import faults_of_decisions
 from cdc6600.shared.instructions import ROWS
@@ -44,7 +46,7 @@ ITEMS = (
     re.compile(r"^    ([A-Z]\w*)\b", re.MULTILINE),
 )
 DEFINITION = re.compile(r"^(?:(?:abbrev|unfoldable) )?pub (?:(?:record|data) )?(\w+)", re.MULTILINE)
-INSTRUCTIONS = {re.match("[A-Z]+", row.text)[0] for row in ROWS.values()}
+INSTRUCTIONS = {re.split("[^A-Z]", row.text)[0] for row in ROWS.values()}
 # Other words of comments: the program, and the folder of a crate's definitions.
 OTHERS = {"cdc6600", "specs"}
 
@@ -67,7 +69,7 @@ CALLS = "docs/proof/calls.md"
 # ---- names and calls ----
 
 
-def declared(crate):
+def declared(crate: Crate) -> set[str]:
     """What the sources and definitions of a crate declare."""
     found = {name for source in crate.sources for item in ITEMS for name in item.findall(source.text)}
     for file in crate.files("specs"):
@@ -75,14 +77,14 @@ def declared(crate):
     return found
 
 
-def said(crate):
+def said(crate: Crate) -> set[str]:
     """The words of a crate's code, with the names of its modules and of its files of definitions."""
     files = {source.file.stem for source in crate.sources} | {file.stem for file in crate.files("specs")}
     code = (line for source in crate.sources for line in source.lines if not COMMENT.match(line))
     return files.union(*(WORD.findall(line) for line in code))
 
 
-def named_at_the_head(crate):
+def named_at_the_head(crate: Crate) -> Iterator[tuple[str, str]]:
     """What the comment that begins a crate names, each with its path and line."""
     for source in (it for it in crate.sources if it.file.name in ("lib.rt", "main.rt")):
         for number, line in enumerate(source.lines, 1):
@@ -91,7 +93,7 @@ def named_at_the_head(crate):
                     yield f"{source.path}:{number}", text
 
 
-def faults_of_names():
+def faults_of_names() -> Iterator[str]:
     """The names in the comments that begin the crates that neither the crate has nor one below it."""
     names = {crate.name: declared(crate) for crate in CRATES.values()}
     for crate in CRATES.values():
@@ -105,14 +107,14 @@ def faults_of_names():
 # ---- how the comment of a crate begins and ends ----
 
 
-def first_comment(crate):
+def first_comment(crate: Crate) -> tuple[str, str]:
     """The path of a crate's first source, and the text of the comment that begins it."""
     source = next(it for it in crate.sources if it.file.name in ("lib.rt", "main.rt"))
     lines = [line.removeprefix("//!").strip() for line in source.lines if line.startswith("//!")]
     return source.path, " ".join(lines)
 
 
-def fault_of_beginning(crate):
+def fault_of_beginning(crate: Crate) -> str | None:
     """What the first comment of a crate doesn't say, or nothing."""
     tests = {source.file.stem for it in CRATES.values() for source in it.sources}
     path, text = first_comment(crate)
@@ -124,7 +126,7 @@ def fault_of_beginning(crate):
     return None
 
 
-def faults_of_beginnings():
+def faults_of_beginnings() -> list[str]:
     """The crates whose first comments break the rule on beginnings."""
     return [fault for fault in map(fault_of_beginning, CRATES.values()) if fault]
 
@@ -132,7 +134,7 @@ def faults_of_beginnings():
 # ---- the parts of names ----
 
 
-def words_of_all():
+def words_of_all() -> set[str]:
     """The words of all code, with the names of the crates, modules and files of definitions."""
     of_crates = (said(crate) | declared(crate) | set(TABLE.uses[crate.name]) for crate in CRATES.values())
     return set(CRATES).union(*of_crates)
@@ -141,7 +143,7 @@ def words_of_all():
 WORDS = words_of_all()
 
 
-def faults_of_parts(name, lines):
+def faults_of_parts(name: str, lines: list[str]) -> Iterator[str]:
     """The names with parts that a file's comments, or a page, give to what no code has."""
     is_page = name.endswith(".md")
     for number, line in enumerate(lines, 1):
@@ -151,9 +153,9 @@ def faults_of_parts(name, lines):
                 yield f"{name}:{number}: there is no `{text}`"
 
 
-def faults_of_calls(page, lines):
+def faults_of_calls(page: str, lines: list[str]) -> Iterator[str]:
     """The calls of a page's tables that no crate has which the page names before."""
-    calls, is_table = set(), False
+    calls, is_table = set[str](), False
     for number, line in enumerate(lines, 1):
         is_table = line.startswith("| Call |") or is_table and line.startswith("|")
         if is_table:
@@ -168,18 +170,18 @@ def faults_of_calls(page, lines):
 # ---- paths and links ----
 
 
-def tracked(*patterns):
+def tracked(*patterns: str) -> list[str]:
     """The files that are part of the repository and match a pattern, by their paths."""
     listed = subprocess.run(["git", "ls-files", *patterns], cwd=ROOT, check=True, capture_output=True, text=True)
     return [path for path in listed.stdout.splitlines() if (ROOT / path).is_file()]
 
 
-def is_there(path):
+def is_there(path: str) -> bool:
     """Whether there is a file or a folder at a path, or one that it stands for."""
     return bool(PLACEHOLDER.search(path)) or (any(ROOT.glob(path)) if "*" in path else (ROOT / path).exists())
 
 
-def faults_of_paths(name, lines):
+def faults_of_paths(name: str, lines: list[str]) -> Iterator[str]:
     """The paths that a file names and that aren't there."""
     for number, line in enumerate(lines, 1):
         for found in PATH.findall(line):
@@ -190,13 +192,13 @@ def faults_of_paths(name, lines):
 
 
 @cache
-def anchors(page):
+def anchors(page: Path) -> set[str]:
     """What a link to a section of a page may end with."""
     heads = re.findall(r"^#+ (.*)$", page.read_text(encoding="utf-8"), re.MULTILINE)
     return {re.sub(r"[^\w -]", "", head.lower()).replace(" ", "-") for head in heads}
 
 
-def faults_of_links(page, lines):
+def faults_of_links(page: str, lines: list[str]) -> Iterator[str]:
     """The targets of a page's links that aren't there."""
     for number, line in enumerate(lines, 1):
         for target in (it for it in LINK.findall(line) if not ELSEWHERE.match(it)):
@@ -208,7 +210,7 @@ def faults_of_links(page, lines):
                 yield f"{page}:{number}: the link leads to no section: {target}"
 
 
-def main():
+def main() -> int:
     faults, pages = [*faults_of_names(), *faults_of_beginnings()], tracked("*.md")
     faults += faults_of_decisions(pages, CRATES.values(), WORDS)
     for name in [path for path in tracked("crates", "tools", "tests", "bench") if path.endswith(KINDS)] + pages:

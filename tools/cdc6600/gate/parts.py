@@ -30,31 +30,30 @@ SHARED_OUT = {"decks": 4, "pages": 4, "sequential": 4, "trace": 4}
 OF_GATE = (*SMALL, "spent-tokens")
 
 
-def command(name):
+def command(name: str) -> list[str]:
     """The words that run a check."""
     return ["tools/check", name]
 
 
-def called(name):
+def called(name: str) -> str:
     """The name of a check as its page and its faults have it."""
     return " ".join(command(name))
 
 
-def module(name):
-    """The name of a check's module."""
+def module(name: str) -> str:
     return f"cdc6600.{'gate' if name in OF_GATE else 'checks'}.{name.replace('-', '_')}"
 
 
-def test_of(name):
+def test_of(name: str) -> str:
     """The path that a check's file has if pytest runs it."""
     return f"{TESTS}/test_{name.replace('-', '_')}.py"
 
 
-def is_test(name):
+def is_test(name: str) -> bool:
     """Whether pytest runs a check."""
     return (ROOT / test_of(name)).is_file()
 
 
-def file_of(name):
+def file_of(name: str) -> str:
     """The path of a check's source."""
     return test_of(name) if is_test(name) else f"tools/{module(name).replace('.', '/')}.py"

@@ -9,20 +9,19 @@ the files with `test` in their names, and all files of a crate whose name ends i
 Run it after a change of the code.
 """
 
-from cdc6600.crates.crate import crates
+from cdc6600.crates.crate import Crate, crates
 from cdc6600.generating.sizes import sizes_of
 
 MOST_LINES, MOST_FUNCTIONS, MOST_OF_A_FUNCTION = 1550, 100, 40
 
 
-def long_functions(crate):
+def long_functions(crate: Crate) -> list[str]:
     """A fault for each function that is too long."""
     functions = [it for source in crate.code for it in source.functions]
     return [f"more than 40 lines: {it.path}:{it.number}" for it in functions if it.size > MOST_OF_A_FUNCTION]
 
 
-def main():
-    """Prints the faults of all crates."""
+def main() -> int:
     faults = []
     for crate in crates():
         lines, functions, *_ = sizes_of(crate)

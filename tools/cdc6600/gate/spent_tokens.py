@@ -14,6 +14,7 @@ import subprocess
 import sys
 import tempfile
 from pathlib import Path
+from typing import Mapping
 
 from cdc6600.crates.table import Table
 from cdc6600.shared.program import ROOT
@@ -41,7 +42,7 @@ REFUSED = re.compile(r"^([^ ]*):\d+: error\[([^]]*)\]", re.MULTILINE)
 WANTED = [(f"src/main.rt:{line}", "linear-value-let-go") for line in range(6, 11)]
 
 
-def copy_crates(folder):
+def copy_crates(folder: Path) -> None:
     """Copies the sources of `machine` and of what it stands on, and makes the list of crates with the program."""
     table = Table(ROOT)
     names = [*table.below("machine"), "machine"]
@@ -52,7 +53,7 @@ def copy_crates(folder):
     shutil.copy(ROOT / "HANDLES", folder)
 
 
-def tried(folder, bodies):
+def tried(folder: Path, bodies: Mapping[str, str]) -> tuple[int | None, str]:
     """Tries the program with these bodies: the status, and what is said. It has nothing to be proved."""
     source = folder / "crates/forgetting/src/main.rt"
     source.parent.mkdir(parents=True, exist_ok=True)
@@ -60,15 +61,15 @@ def tried(folder, bodies):
     for name, body in bodies.items():
         text = text.replace(name, body)
     source.write_text(text, encoding="utf-8")
-    pipes = {"stdin": subprocess.DEVNULL, "stdout": subprocess.PIPE, "stderr": subprocess.STDOUT}
     try:
-        ran = subprocess.run(["rt", "try"], cwd=source.parents[1], timeout=SECONDS, text=True, check=False, **pipes)
+        ran = subprocess.run(["rt", "try"], cwd=source.parents[1], timeout=SECONDS, text=True, check=False,
+                             stdin=subprocess.DEVNULL, stdout=subprocess.PIPE, stderr=subprocess.STDOUT)
     except subprocess.TimeoutExpired:
         return None, f"rt try didn't end in {SECONDS} seconds"
     return ran.returncode, ran.stdout
 
 
-def fault_in(folder):
+def fault_in(folder: Path) -> str | None:
     """What isn't as it should be, or none."""
     copy_crates(folder)
     status, said = tried(folder, ENDED)
@@ -80,7 +81,7 @@ def fault_in(folder):
     return None
 
 
-def main():
+def main() -> int:
     for number in (signal.SIGTERM, signal.SIGHUP):
         signal.signal(number, lambda *_: sys.exit(1))
     with tempfile.TemporaryDirectory() as folder:

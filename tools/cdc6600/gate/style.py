@@ -1,11 +1,11 @@
-"""Checks the style of all Python of the project by flake8, with the settings of .flake8. It prints a line for each
-fault, and nothing if there is none.
+"""Checks the style of all Python of the project by flake8, with the settings of .flake8, and its types by mypy, with
+those of tools/mypy.ini. It prints a line for each fault, and nothing if there is none.
 
 Run it after a change of the tools.
 """
 
 import subprocess
-import sys
+from pathlib import Path
 
 from cdc6600.checks.debian import python_with
 from cdc6600.shared.program import ROOT
@@ -13,7 +13,7 @@ from cdc6600.shared.program import ROOT
 SHEBANG = b"python3"
 
 
-def is_python(file):
+def is_python(file: Path) -> bool:
     """Whether a file is Python: by its name, or by its first line if its name has no ending."""
     if not file.is_file() or file.suffix:
         return file.suffix == ".py" and file.is_file()
@@ -21,14 +21,13 @@ def is_python(file):
         return SHEBANG in text.readline()
 
 
-def sources():
+def sources() -> list[str]:
     """The files of the repository that are Python, by their paths."""
     listed = subprocess.run(["git", "ls-files"], cwd=ROOT, check=True, capture_output=True, text=True).stdout
     return [path for path in listed.splitlines() if is_python(ROOT / path)]
 
 
-def main():
-    words = [python_with("flake8"), "-m", "flake8", *sources()]
-    ran = subprocess.run(words, cwd=ROOT, stdout=subprocess.PIPE, text=True, check=False)
-    sys.stdout.write(ran.stdout)
-    return 1 if ran.returncode else 0
+def main() -> int:
+    styled = [python_with("flake8"), "-m", "flake8", *sources()]
+    typed = ["mypy", "--config-file", "tools/mypy.ini", "--no-error-summary"]
+    return max([subprocess.run(words, cwd=ROOT, check=False).returncode for words in (styled, typed)])

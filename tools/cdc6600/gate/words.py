@@ -17,6 +17,7 @@ import re
 import subprocess
 from dataclasses import dataclass
 from pathlib import Path
+from typing import Iterator
 
 from cdc6600.generating import calls, checks, crate_map
 from cdc6600.shared.program import ROOT
@@ -40,15 +41,14 @@ class Word:
     forms: str
     meaning: str
     instead: str
-    crates: frozenset
+    crates: frozenset[str]
     lines: str
     subject: str
 
-    def is_in(self, text):
-        """Whether a text has the word."""
+    def is_in(self, text: str) -> bool:
         return bool(re.search(rf"\b(?:{self.forms})\b", text))
 
-    def is_misused(self, path, line, passage):
+    def is_misused(self, path: Path, line: str, passage: str) -> bool:
         """Whether a line has the word in another meaning: a line of a crate's file, or one of a passage of a page."""
         if path.suffix in PAGES:
             return self.is_in(QUOTED.sub("", line)) and not re.search(self.subject, passage)
@@ -57,7 +57,7 @@ class Word:
         return self.is_in(line) and not re.search(self.lines, line)
 
 
-def crates(names):
+def crates(names: str) -> frozenset[str]:
     """A set of crates, or of files by their names without the ending."""
     return frozenset(names.split())
 
@@ -123,7 +123,7 @@ GONE = {
 }
 
 
-def files():
+def files() -> list[Path]:
     """The files that are read, as paths from the root. The pages that are generated have the words of sources."""
     listed = subprocess.run(
         ["git", "ls-files", *FOLDERS], cwd=ROOT, check=True, capture_output=True, text=True
@@ -131,7 +131,7 @@ def files():
     return [Path(name) for name in listed if name.endswith(KINDS) and name not in GENERATED]
 
 
-def passages(lines):
+def passages(lines: list[str]) -> list[str]:
     """The passage of each line of a page: a row of a table or a request by itself, or a paragraph. A line of code has
     none."""
     found, begun, is_code = [""] * len(lines), 0, False
@@ -146,7 +146,7 @@ def passages(lines):
     return found
 
 
-def faults_in(path):
+def faults_in(path: Path) -> Iterator[str]:
     """What is wrong with a file, a text for each line."""
     lines = (ROOT / path).read_text(encoding="utf-8").splitlines()
     texts = passages(lines) if path.suffix in PAGES else lines
@@ -162,7 +162,7 @@ def faults_in(path):
                 yield f"{path}:{number}: `{old}` is called `{new}`: {line.strip()}"
 
 
-def main():
+def main() -> int:
     faults = [fault for path in files() for fault in faults_in(path)]
     for fault in faults:
         print(fault)

@@ -6,8 +6,10 @@ call that a crate hands on from another one counts there.
 
 import re
 from functools import cache
+from typing import Collection, Iterator
 
 from cdc6600.crates.crate import Source, crates
+from cdc6600.crates.source import Item
 from cdc6600.shared.program import ROOT
 
 from .texts import cell, first_sentence
@@ -41,25 +43,25 @@ KINDS = ROOT / "crates/program_order/specs/Refusals.antt"
 
 
 @cache
-def refusals():
+def refusals() -> list[str]:
     """The names of all refusals and faults of the program, in the order of the sources."""
     files = (("crates/instructions/src/refusal.rt", "Refusal"), ("crates/operator_terms/src/fault.rt", "ProgramFault"))
     return [name for path, kind in files for name in Source(ROOT / path).names_of_variants(kind)]
 
 
 @cache
-def of_kinds():
+def of_kinds() -> dict[str, set[str]]:
     """The refusals of each definition of Refusals.antt, and those of each event."""
-    text, kinds = KINDS.read_text(encoding="utf-8"), {}
+    text, kinds = KINDS.read_text(encoding="utf-8"), dict[str, set[str]]()
     for kind, refusal in re.findall(r"^(is_\w+) \(?(\w+)[^=]*= true", text, re.M):
         kinds.setdefault(kind, set()).add(refusal)
     for event, answer in re.findall(r"^may_refuse \(?(\w+)[^=]*=(.*)", text, re.M):
-        kinds[event] = set().union(*(kinds[kind] for kind in re.findall(r"is_\w+", answer)))
+        kinds[event] = set[str]().union(*(kinds[kind] for kind in re.findall(r"is_\w+", answer)))
     return kinds
 
 
 @cache
-def of_tests():
+def of_tests() -> dict[str, set[str]]:
     """The refusals of each definition that lists the tests of an event, by its name."""
     found = {}
     for path in sorted(ROOT.glob("crates/*/specs/*.antt")):
@@ -68,42 +70,42 @@ def of_tests():
     return found
 
 
-def named_by(call):
+def named_by(call: Item) -> set[str]:
     """The refusals that a contract names, by themselves, by a definition of Refusals.antt, or by its event."""
     text = (ROOT / call.path).read_text(encoding="utf-8")
     imports = re.findall(r"Rattle\.program_order\.specs\.Refusals\.\{([^}]*)\}", text)
     kinds = set(re.findall(r"\w+", " ".join(imports))) & set(re.findall(r"\bis_\w+", call.declaration))
     events = re.findall(r"\bIs(?:Held)?Event self\.old \(?([A-Z]\w+)", call.declaration)
-    names = set().union(*(of_kinds()[kind] for kind in [*kinds, *events]))
+    names = set[str]().union(*(of_kinds()[kind] for kind in [*kinds, *events]))
     for pair in re.findall(r"(?:refusal|back\.0) ≡ (?:\(if .*? then )?(\w+)(?: else (\w+))?", call.declaration):
         names.update(pair)
     return names & set(refusals())
 
 
-def tested_by(call):
+def tested_by(call: Item) -> set[str]:
     """The refusals of the tests that a contract cites."""
     tests = set(re.findall(r"\b\w+_tests\b", call.declaration)) & set(of_tests())
-    return set().union(*(of_tests()[name] for name in tests))
+    return set[str]().union(*(of_tests()[name] for name in tests))
 
 
-def listed(names):
+def listed(names: Collection[str]) -> str:
     """Some refusals, in the order of the sources."""
     return ", ".join(f"`{name}`" for name in dict.fromkeys(refusals()) if name in names)
 
 
-def refusing(call):
+def refusing(call: Item) -> str:
     """What a call may refuse: what its comment says under `# Errors`, and what else its contract names."""
     named, said = named_by(call), " ".join(line.strip().removeprefix("///") for line in call.errors.splitlines())
     said = " ".join(re.sub(r"#\[.*\]", "", said).split())
     further = listed({name for name in named if f"`{name}`" not in said} if said or named else tested_by(call))
-    answer = (re.search(r"->(.*)", call.signature) or ["", ""])[1]
+    answer = call.signature.partition("->")[2].partition("\n")[0]
     if said or further:
         return f"{said} {further}".strip()
     failure = re.search(r"Result<.*, (\w+)>", answer)
     return "`None`" if re.match(r" *Option\b", answer) else f"`{failure[1]}`" if failure else "nothing"
 
 
-def returning(call):
+def returning(call: Item) -> str:
     """How it returns, by what it is given."""
     if call.within.is_trait:
         return "as its type does"
@@ -114,12 +116,12 @@ def returning(call):
     return "always"
 
 
-def requiring(call):
+def requiring(call: Item) -> str:
     """What its caller has to prove."""
     return " and ".join(f"`{' '.join(text.split())}`" for text in REQUIRES.findall(call.declaration)) or NONE
 
 
-def rows_of(call):
+def rows_of(call: Item) -> Iterator[tuple[str, ...]]:
     """The rows of a call: one, or of `Machine::apply` one for each event."""
     does = first_sentence(call.comment)
     if call.label != "Machine::apply":
@@ -130,8 +132,7 @@ def rows_of(call):
         yield f"{call.label}` of `{event}", does, refused, returning(call), requiring(call)
 
 
-def text():
-    """The page."""
+def text() -> str:
     parts = [INTRODUCTION]
     for crate in crates():
         if crate.public_calls:

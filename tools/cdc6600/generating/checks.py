@@ -2,6 +2,8 @@
 
 import ast
 import re
+from pathlib import Path
+from typing import Iterator
 
 from cdc6600.checks.debian import needed
 from cdc6600.gate.parts import ASKING, BODIES, BUILDING, DECKS, SMALL, called, file_of
@@ -27,17 +29,17 @@ COLUMNS = ("Check", "What it does", "Run it after a change of", "Needs")
 AFTER = re.compile(r"^Run it after (?:a change of )?(.*?)\.(?: |$)", re.MULTILINE | re.DOTALL)
 
 
-def said_by(name):
-    """What a check says of itself."""
-    return ast.get_docstring(ast.parse((ROOT / file_of(name)).read_text(encoding="utf-8")))
+def docstring_of(file: Path) -> str:
+    """What a module says of itself."""
+    return ast.get_docstring(ast.parse(file.read_text(encoding="utf-8"))) or ""
 
 
-def first_sentence(text):
+def first_sentence(text: str) -> str:
     """The first sentence of a text, without its full stop."""
     return re.split(r"\.(?: |$)", " ".join(text.split()), maxsplit=1)[0]
 
 
-def needs_of(name):
+def needs_of(name: str) -> str:
     """What a check needs: the library, and programs of other projects."""
     programs = [it.program for it in needed() if name in it.checks]
     is_of_pages = "chromium" in programs
@@ -45,31 +47,28 @@ def needs_of(name):
                       *([] if is_of_pages else [f"`{it}`" for it in programs])])
 
 
-def row(*cells):
-    """A row of a table."""
+def row(*cells: str) -> str:
     return f"| {' | '.join(cells)} |"
 
 
-def rows():
+def rows() -> Iterator[str]:
     """The tables of the checks."""
     for head, names in GROUPS:
         yield from (f"## {head}", "", row(*COLUMNS), f"|{'---|' * len(COLUMNS)}")
         for name in names:
-            said = said_by(name)
-            after = re.sub(r"(,|\b(?:or|and)) of ", r"\1 ", " ".join(AFTER.search(said)[1].split()))
+            said = docstring_of(ROOT / file_of(name))
+            after = re.sub(r"(,|\b(?:or|and)) of ", r"\1 ", " ".join(AFTER.findall(said)[0].split()))
             link = f"[`{called(name)}`](../../{file_of(name)})"
             yield row(link, first_sentence(said), after, needs_of(name))
         yield ""
 
 
-def packages():
+def packages() -> Iterator[str]:
     """A row for each package of the tools."""
     for file in sorted((ROOT / "tools/cdc6600").glob("*/__init__.py")):
-        said = ast.get_docstring(ast.parse(file.read_text(encoding="utf-8")))
-        yield f"| `{file.parent.name}` | {said.removesuffix('.')} |"
+        yield f"| `{file.parent.name}` | {docstring_of(file).removesuffix('.')} |"
 
 
-def text():
-    """The page."""
+def text() -> str:
     table = ["## The packages of `tools/cdc6600`\n", "| Package | What it has |", "|---|---|", *packages(), ""]
     return "\n".join([INTRODUCTION, *rows(), *table])

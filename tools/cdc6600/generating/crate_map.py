@@ -1,8 +1,9 @@
 """The map of the crates: what each one is, what it uses, and what its modules, definitions and proofs have."""
 
 import re
+from typing import Iterator
 
-from cdc6600.crates.crate import NIGHTLY, crates
+from cdc6600.crates.crate import NIGHTLY, Crate, crates
 from cdc6600.crates.table import FILE, Table
 from cdc6600.shared.program import ROOT
 
@@ -40,7 +41,7 @@ OF_FUNCTIONS = {"Answers", "Lib", "Proof", "Invariants"}
 EXPORTED = re.compile(r"^pub (?:const )?(?:fn|struct|enum|trait|type|const) (\w+)", re.MULTILINE)
 
 
-def sections():
+def sections() -> list[tuple[str, list[str]]]:
     """The sections of crates.txt: the comment that begins each, after an empty line, and the names of its crates."""
     found = []
     for part in (ROOT / FILE).read_text(encoding="utf-8").split("\n\n")[1:]:
@@ -49,14 +50,14 @@ def sections():
     return found
 
 
-def used_by(table, name):
+def used_by(table: Table, name: str) -> list[str]:
     """What a crate uses, without the crates that another one of them uses."""
     used = table.uses[name]
     further = {it for other in used if other in table.lines for it in table.below(other)}
     return [it for it in used if it not in further]
 
 
-def modules_of(crate):
+def modules_of(crate: Crate) -> Iterator[tuple[str, str]]:
     """A row for each module that isn't a test: what its comment says, or what it exports."""
     for source in crate.code:
         path = source.file.relative_to(crate.folder / "src")
@@ -67,7 +68,7 @@ def modules_of(crate):
         yield f"`src/{path}`", said or names
 
 
-def written_in(crate, part):
+def written_in(crate: Crate, part: str) -> Iterator[tuple[str, str]]:
     """A row for each file of definitions or lemmas that begins with a comment."""
     for file in crate.files(part):
         said = first_sentence(comment_of(file.read_text(encoding="utf-8").splitlines(), "--"))
@@ -75,7 +76,7 @@ def written_in(crate, part):
             yield f"`{file.relative_to(crate.folder)}`", said
 
 
-def bodies_of(crate):
+def bodies_of(crate: Crate) -> Iterator[tuple[str, str]]:
     """A row for the wrong bodies that the gate tries, and one for those that it tries only if the crate has changed."""
     nightly = [file for file in crate.edits if file.parent.name == NIGHTLY]
     tried = [file for file in crate.edits if file not in nightly]
@@ -85,7 +86,7 @@ def bodies_of(crate):
             yield f"{len(edits)} {bodies}{where}", ", ".join(sorted(f"`{file.stem}`" for file in edits))
 
 
-def part_of(table, crate):
+def part_of(table: Table, crate: Crate) -> list[str]:
     """The part of the page about a crate."""
     root = next(source for source in crate.sources if source.file.name in ("lib.rt", "main.rt"))
     uses = ", ".join(f"`{name}`" for name in used_by(table, crate.name))
@@ -97,8 +98,7 @@ def part_of(table, crate):
     return lines
 
 
-def text():
-    """The page."""
+def text() -> str:
     table, by_name = Table(ROOT), {crate.name: crate for crate in crates()}
     lines = INTRODUCTION.split("\n")
     for head, names in sections():

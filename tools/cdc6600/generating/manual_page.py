@@ -1,6 +1,7 @@
 """The manual page of the program, from docs/use/formats.md."""
 
 import re
+from typing import Iterable, Iterator, Sequence
 
 from cdc6600.shared.decks import lines_of
 from cdc6600.shared.program import ROOT
@@ -35,13 +36,13 @@ LINK = re.compile(r"\[([^]]*)\]\([^)]*\)")
 MARKED = re.compile(r"`([^`]*)`|\*([^*]*)\*")
 
 
-def escaped(text):
+def escaped(text: str) -> str:
     """A text as `man` takes it."""
     text = text.replace("\\", "\\e").replace("-", "\\-").replace("'", "\\(aq")
     return f"\\&{text}" if text.startswith(".") else text
 
 
-def inline(text):
+def inline(text: str) -> str:
     """A paragraph with its marks."""
     for old, new in HERE:
         text = text.replace(old, new)
@@ -55,39 +56,39 @@ def inline(text):
     return "".join([*parts, escaped(plain[end:])])
 
 
-def cells(line):
+def cells(line: str) -> list[str]:
     """The two cells of a row."""
     return [cell.strip() for cell in re.split(r" \|(?= |$)", line.strip().removeprefix("|"))[:2]]
 
 
-def tagged(rows):
+def tagged(rows: Iterable[str]) -> Iterator[str]:
     """The rows of a table as entries."""
     for tag, said in map(cells, rows):
         yield from (".TP", f".B {escaped(tag.replace('`', ''))}", inline(said))
 
 
-def shown(lines):
+def shown(lines: Iterable[str]) -> list[str]:
     """Lines that are shown as they are."""
     told = (line.replace("./cdc6600", "cdc6600") for line in lines)
     return [".PP", ".in +4n", ".nf", *map(escaped, told), ".fi", ".in"]
 
 
-def rows_below(lines, head):
+def rows_below(lines: list[str], head: str) -> list[str]:
     """The rows of the table with a head."""
     first = next(number for number, line in enumerate(lines) if line.startswith(head)) + 2
     last = next((number for number in range(first, len(lines)) if not lines[number].startswith("|")), len(lines))
     return lines[first:last]
 
 
-def synopsis(lines):
+def synopsis(lines: Iterable[str]) -> list[str]:
     """The calls, with the names of commands bold and what stands for others in italics."""
     calls = [line.strip() for line in lines if line.startswith("    ")]
     return [".nf", *(re.sub(r"\b([A-Z]+)\b", r"\\fI\1\\fR", escaped(call)) for call in calls), ".fi"]
 
 
-def parts_of(lines):
+def parts_of(lines: Iterable[str]) -> Iterator[str]:
     """The parts of a section that has no table: paragraphs, lists, and what is shown as it is."""
-    taken, is_shown = [], False
+    taken, is_shown = list[str](), False
     for line in [*lines, ""]:
         if line.startswith(FENCE):
             if is_shown:
@@ -100,7 +101,7 @@ def parts_of(lines):
             taken = [line] if BULLET.match(line) else []
 
 
-def paragraph(lines):
+def paragraph(lines: Sequence[str]) -> Iterator[str]:
     """A paragraph, or an entry of a list."""
     if lines:
         text = " ".join(line.strip() for line in lines)
@@ -108,13 +109,13 @@ def paragraph(lines):
         yield from (".IP \\(bu 2" if is_entry else ".PP", inline(BULLET.sub("", text, count=1) if is_entry else text))
 
 
-def introduction():
+def introduction() -> list[str]:
     """The lines of formats.md before its first section."""
     lines = lines_of(FORMATS)
     return lines[1:next(number for number, line in enumerate(lines) if line.startswith("## "))]
 
 
-def section(head, name, table):
+def section(head: str, name: str | None, table: str | None) -> Iterator[str]:
     """A section of the manual page."""
     lines = lines_of(FORMATS, name) if name else introduction()
     yield f".SH {head}"
@@ -126,7 +127,7 @@ def section(head, name, table):
         yield from list(parts_of(lines))[1 if head != "EXAMPLES" else 0:]
 
 
-def text():
+def text() -> str:
     """The page."""
     version = VERSION.read_text(encoding="utf-8").strip()
     lines = [

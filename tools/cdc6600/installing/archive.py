@@ -7,6 +7,8 @@ import gzip
 import io
 import tarfile
 import zlib
+from pathlib import Path
+from typing import IO, Iterable, cast
 
 from .installation import HEAD, Piece, folders_above, list_of
 
@@ -34,31 +36,33 @@ share/doc/cdc6600. Begin there with README.md and docs/use/tutorial.md.
 """
 
 
-def member(piece):
+def member(piece: Piece) -> tarfile.TarInfo:
     """What an archive says of a file."""
     found = tarfile.TarInfo(f"{FOLDER}/{piece.name}")
     found.size, found.mode, found.mtime = len(piece.content), piece.mode, TIME
     return found
 
 
-def archive(pieces, list_name):
+def archive(pieces: Iterable[Piece], list_name: str) -> bytes:
     """The bytes of an archive of these files. The list of their names comes first; an archive is known by it."""
     ordered = sorted([*pieces, Piece("START.txt", FIRST_PAGE.encode())], key=lambda piece: piece.name)
     names, packed = [piece.name for piece in ordered], io.BytesIO()
     first = list_of(list_name, [*names, *sorted(folders_above([*names, list_name]))])
     with gzip.GzipFile("", "wb", fileobj=packed, mtime=0) as zipped:
-        with tarfile.open(fileobj=zipped, mode="w", format=tarfile.USTAR_FORMAT) as written:
+        # The stubs of the standard library name no kind of file that a GzipFile is.
+        with tarfile.open(fileobj=cast(IO[bytes], zipped), mode="w", format=tarfile.USTAR_FORMAT) as written:
             for piece in (first, *ordered):
                 written.addfile(member(piece), io.BytesIO(piece.content))
     return packed.getvalue()
 
 
-def is_archive(file, list_name):
+def is_archive(file: str | Path, list_name: str) -> bool:
     """Whether a file is such an archive: it begins with the list."""
     try:
         with tarfile.open(file, "r:gz") as found:
             first = found.next()
-            is_list = first is not None and first.isfile() and first.name == f"{FOLDER}/{list_name}"
-            return is_list and found.extractfile(first).read(len(HEAD)) == HEAD.encode()
+            is_list = first and first.isfile() and first.name == f"{FOLDER}/{list_name}"
+            content = found.extractfile(first) if first and is_list else None
+            return content is not None and content.read(len(HEAD)) == HEAD.encode()
     except (tarfile.TarError, gzip.BadGzipFile, EOFError, zlib.error):
         return False

@@ -10,6 +10,6 @@ FILES = {
 }
 
 
-def script_file(shell):
+def script_file(shell: str) -> Path:
     """The file with the script of a shell."""
     return Path(__file__).with_name(f"cdc6600.{shell}")

@@ -14,7 +14,7 @@ from .module import FOLDER, LOWERING, Making
 WIDE, NARROW = "cdc6600.wasm", "cdc6600-32.wasm"
 
 
-def made(bitcode):
+def made(bitcode: Path) -> dict[str, bytes | None]:
     """The modules of some bitcode, by their names. That with 32-bit addresses is none without binaryen."""
     with tempfile.TemporaryDirectory(prefix="cdc6600-") as room:
         making = Making(checker().parent.parent, Path(room))
@@ -22,7 +22,7 @@ def made(bitcode):
         return {WIDE: wide, NARROW: making.lowered(wide)}
 
 
-def kept():
+def kept() -> dict[str, bytes | None]:
     """The same of the proved crate. If they are older than a source, they are made.
 
     Raises Unproved if a crate isn't proved."""

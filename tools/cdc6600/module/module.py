@@ -13,6 +13,7 @@ one with 32-bit addresses. Both import nothing, and have the same bytes whenever
 import re
 import shutil
 from pathlib import Path
+from typing import Container, Iterable, Iterator
 
 from cdc6600.building.building import Unproved
 from cdc6600.building.library import HEADER
@@ -49,12 +50,12 @@ NOTES, TABLE, ELEMENTS = 0, 4, 9
 UNPROVED = "unproved"
 
 
-def calls():
+def calls() -> list[str]:
     """The functions that the header declares."""
     return sorted(set(CALL.findall(HEADER.read_text(encoding="utf-8"))))
 
 
-def for_wasm(text):
+def for_wasm(text: str) -> str:
     """The text of the bitcode for wasm64, without what only x86-64 has."""
     text = re.sub(r"^target datalayout = .*$", f'target datalayout = "{LAYOUT}"', text, flags=re.MULTILINE)
     text = re.sub(r"^target triple = .*$", 'target triple = "wasm64-unknown-unknown"', text, flags=re.MULTILINE)
@@ -64,7 +65,7 @@ def for_wasm(text):
     return text
 
 
-def number(data, at):
+def number(data: bytes, at: int) -> tuple[int, int]:
     """A number of the binary format, and where it ends."""
     value = shift = 0
     while True:
@@ -75,7 +76,7 @@ def number(data, at):
             return value, at
 
 
-def sections(data):
+def sections(data: bytes) -> Iterator[tuple[int, bytes]]:
     """The sections of a module, each as its number and all its bytes."""
     at = 8
     while at < len(data):
@@ -84,7 +85,7 @@ def sections(data):
         at = begin + size
 
 
-def without(data, kinds):
+def without(data: bytes, kinds: Container[int]) -> bytes:
     """A module without its sections of these kinds."""
     found = list(sections(data))
     if any(kind == ELEMENTS for kind, _ in found):
@@ -92,7 +93,7 @@ def without(data, kinds):
     return data[:8] + b"".join(it for kind, it in found if kind not in kinds)
 
 
-def marked(data):
+def marked(data: bytes) -> bytes:
     """A module with a note that it isn't proved. Engines ignore the note, and cdc6600.mjs finds it."""
     name = UNPROVED.encode()
     return data + bytes([NOTES, len(name) + 1, len(name)]) + name
@@ -101,47 +102,42 @@ def marked(data):
 class Making:
     """The making of modules in a folder of its own."""
 
-    def __init__(self, kit, room):
+    def __init__(self, kit: Path, room: Path) -> None:
         self.room, self.clang, self.linker = room, room / "clang", room / "ld.lld"
         for it in (self.clang, self.linker):
             it.symlink_to((kit / "toolchain/bin" / it.name).resolve())
 
-    def run(self, *words):
+    def run(self, *words: str | Path) -> None:
         """Runs a command that has to end well."""
         ran = run([str(it) for it in words], self.room)
         if ran.status:
             raise Unproved(f"{ran.said.rstrip()}\ncdc6600: the module isn't made")
 
-    def text_of(self, bitcode):
-        """The text of some bitcode."""
+    def text_of(self, bitcode: Path) -> str:
         file = self.room / "code.ll"
         self.run(self.clang, "--target=x86_64-unknown-linux-gnu", "-x", "ir", "-S", "-emit-llvm", "-Xclang",
                  "-disable-llvm-passes", bitcode, "-o", file)
         return file.read_text(encoding="utf-8")
 
-    def compiled(self, *words):
-        """An object file."""
+    def compiled(self, *words: str | Path) -> Path:
         file = self.room / f"{Path(words[-1]).stem}.o"
         self.run(self.clang, *COMMON, *words, "-o", file)
         return file
 
-    def linked(self, exports, *files):
-        """A module of object files."""
+    def linked(self, exports: Iterable[str], *files: Path) -> bytes:
         made = self.room / "linked.wasm"
         self.run(self.linker, *LINKED, *(f"--export={it}" for it in exports), "-o", made, *files)
         return without(made.read_bytes(), (NOTES, TABLE))
 
-    def of_sources(self):
-        """The object files of heap.c and memory.c."""
+    def of_sources(self) -> list[Path]:
         return [self.compiled(*C, FOLDER / f"{name}.c") for name in SOURCES]
 
-    def module(self, text):
-        """The module of the text of some bitcode."""
+    def module(self, text: str) -> bytes:
         file = self.room / "wasm.ll"
         file.write_text(for_wasm(text), encoding="utf-8")
         return self.linked([*calls(), *OF_HEAP], self.compiled(*CODE, file), *self.of_sources())
 
-    def lowered(self, module):
+    def lowered(self, module: bytes) -> bytes | None:
         """A module with 32-bit addresses instead of 64-bit ones, or none if binaryen isn't installed."""
         tool, files = shutil.which(LOWERING), [self.room / name for name in ("wide.wasm", "narrow.wasm")]
         if not tool:

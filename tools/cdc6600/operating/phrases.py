@@ -3,6 +3,7 @@ line means."""
 
 import difflib
 import os
+from typing import Iterable
 
 from cdc6600.asking.states import CHANNELS, PLACES
 from cdc6600.drawing.units import UNITS
@@ -15,18 +16,18 @@ PHRASES = sorted((
 ))
 
 
-def completions(typed, events):
+def completions(typed: str, events: Iterable[str]) -> list[str]:
     """The lines that begin with what is typed, by the events that may be tried and by all phrases."""
     return sorted({line for line in (*events, *PHRASES) if line.startswith(typed)})
 
 
-def completed(typed, events):
+def completed(typed: str, events: Iterable[str]) -> tuple[str, list[str]]:
     """What is typed, with all that must follow, and the lines that it may become."""
     found = completions(typed, events)
     return (os.path.commonprefix(found) if found else typed), found
 
 
-def near(line):
+def near(line: str) -> str:
     """The phrase that a line is like, in a sentence; nothing where there is none."""
     found = difflib.get_close_matches(line.lower(), [it.strip(" ") for it in PHRASES], 1, 0.75)
     return f" Do you mean {found[0]}?" if found else ""

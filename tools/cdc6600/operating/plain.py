@@ -6,9 +6,10 @@ from contextlib import suppress
 
 from cdc6600.drawing.following import Fault
 from cdc6600.drawing.forms import MOST_COLUMNS
+from cdc6600.shared.ending import set_errors
 
 from .board import board, offered, wrapped
-from .commands import Quit
+from .commands import Commands, Quit
 from .phrases import completions
 
 PROMPT = "> "
@@ -22,14 +23,14 @@ class Plain:
     """The machine, and the events that may be tried, in lines of standard output. Lines of standard input say what is
     done: the number of an event that is offered, an event, or a command."""
 
-    def __init__(self, commands):
+    def __init__(self, commands: Commands) -> None:
         self.commands, self.operation = commands, commands.operation
         self.is_terminal = sys.stdin.isatty() and sys.stdout.isatty()
 
-    def run(self):
+    def run(self) -> None:
         """Goes on up to `quit`, or the end of standard input."""
-        sys.stdin.reconfigure(errors="surrogateescape")
-        sys.stdout.reconfigure(errors="backslashreplace")
+        set_errors(sys.stdin, "surrogateescape")
+        set_errors(sys.stdout, "backslashreplace")
         self.begin_lines()
         self.show(self.operation.said())
         for line in iter(self.typed, ""):
@@ -49,7 +50,7 @@ class Plain:
             else:
                 print(*wrapped(said), sep="\n")
 
-    def begin_lines(self):
+    def begin_lines(self) -> None:
         """Has the lines of a terminal completed, and kept to be typed again. `readline` isn't imported where nobody
         types lines, since it takes the signal of a terminal that is resized, which the whole screen needs."""
         if not self.is_terminal:
@@ -61,12 +62,12 @@ class Plain:
             for binding in BINDINGS:
                 readline.parse_and_bind(binding)
 
-    def completion(self, typed, number):
+    def completion(self, typed: str, number: int) -> str | None:
         """One of the lines that begin with what is typed, by its number from 0."""
         found = completions(typed, [offer.event for offer in self.operation.offers()])
         return found[number] if number < len(found) else None
 
-    def typed(self):
+    def typed(self) -> str:
         """The next line of standard input, empty at its end."""
         if self.is_terminal:
             try:
@@ -79,13 +80,13 @@ class Plain:
             raise Fault("standard input", f"a line has {LONGEST} characters or more")
         return line
 
-    def meant(self, line):
+    def meant(self, line: str) -> str:
         """The event that a number stands for; any other line as it is."""
         offers = self.operation.offers()
         is_number = line.isdecimal() and 1 <= int(line) <= len(offers)
         return offers[int(line) - 1].event if is_number else line
 
-    def show(self, said):
+    def show(self, said: str) -> None:
         """Shows what is said, the machine, and what may be tried."""
         print(f"\n--- {self.operation.progress} ---")
         print(*board(self.operation.view), sep="\n")

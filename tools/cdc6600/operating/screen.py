@@ -3,13 +3,14 @@
 import curses
 import os
 import sys
+from typing import Iterable
 
 from cdc6600.drawing.following import Fault
 from cdc6600.drawing.listing import MARK
 from cdc6600.shared.ending import printable
 
 from .board import WIDTH, board, offered, wrapped
-from .commands import PAST, SOURCE, VALUES, Quit
+from .commands import PAST, SOURCE, VALUES, Commands, Quit
 from .phrases import completed
 
 LINES = 24
@@ -34,14 +35,14 @@ class Screen:
     """The machine, the events that may be tried, and a line that is typed, on the terminal's window. At the end of the
     session it has what was printed there instead. `chosen` is the event, or then the first line, that is in sight."""
 
-    def __init__(self, window, commands):
+    def __init__(self, window: curses.window, commands: Commands) -> None:
         self.window, self.commands, self.operation = window, commands, commands.operation
         self.typed, self.chosen, self.said = "", 0, self.operation.said()
         # The lines that were typed, which of them is shown, and by how many lines the past events are scrolled.
-        self.lines, self.at, self.scrolled = [], 0, 0
+        self.lines, self.at, self.scrolled = list[str](), 0, 0
         self.offers = self.operation.offers()
 
-    def run(self):
+    def run(self) -> None:
         """Goes on up to `quit`."""
         curses.set_escdelay(25)
         while True:
@@ -51,7 +52,7 @@ class Screen:
             except Quit:
                 return
 
-    def key(self):
+    def key(self) -> str | int:
         """The next key. What is no letter in the terminal's code is passed over."""
         for _ in range(TRIES):
             try:
@@ -60,10 +61,10 @@ class Screen:
                 pass
         raise Fault("the terminal", "no key can be read")
 
-    def press(self, key):
+    def press(self, key: str | int) -> None:
         """Does what a key stands for."""
         choices = {curses.KEY_UP: -1, curses.KEY_DOWN: 1}
-        if key in choices:
+        if isinstance(key, int) and key in choices:
             last = len(self.offers or self.operation.ending()) - 1
             self.chosen = max(min(self.chosen + choices[key], last), 0)
         elif key in ENTER:
@@ -79,14 +80,14 @@ class Screen:
         else:
             self.edit(key)
 
-    def step(self, command):
+    def step(self, command: str) -> None:
         """Goes a step on or back, unless a line is being typed."""
         if self.typed:
             self.said = TYPING
         else:
             self.carry_out(command)
 
-    def edit(self, key):
+    def edit(self, key: str | int) -> None:
         """Changes the line that is typed."""
         if key in ERASE:
             self.typed = self.typed[:-1]
@@ -103,26 +104,26 @@ class Screen:
         elif isinstance(key, str) and " " <= key <= "~":
             self.typed += key
 
-    def complete(self):
+    def complete(self) -> None:
         """Completes what is typed. Where it may become several lines, these are told."""
         before = self.typed
         self.typed, found = completed(self.typed, [offer.event for offer in self.offers])
         if self.typed == before and len(found) != 1:
             self.said = f"It may become: {', '.join(it.strip(' ') for it in found)}." if found else "Nothing begins so."
 
-    def bring_back(self, step):
+    def bring_back(self, step: int) -> None:
         """Brings back a line that was typed."""
         self.at = min(max(self.at + step, 0), len(self.lines))
         self.typed = self.lines[self.at] if self.at < len(self.lines) else ""
 
-    def carry_out(self, line):
+    def carry_out(self, line: str) -> None:
         """Carries out a line, and offers what may be tried then."""
         self.lines += [self.typed] * bool(self.typed)
         self.typed, self.at, self.scrolled = "", len(self.lines), 0
         self.said = self.commands.carry_out(line)
         self.offers, self.chosen = self.operation.offers(), 0
 
-    def draw(self):
+    def draw(self) -> None:
         """Draws everything, or that the terminal is too small. The signal that tells of another size can come just
         before a key is awaited, and then curses doesn't know of it yet."""
         width, height = os.get_terminal_size(sys.stdout.fileno())
@@ -136,7 +137,7 @@ class Screen:
             self.draw_all(height)
         self.window.refresh()
 
-    def draw_all(self, height):
+    def draw_all(self, height: int) -> None:
         """Draws the title, what is said, the machine, what may be tried, and the line that is typed."""
         title = f"{printable(self.operation.file)}, {self.operation.progress}"
         self.put(0, f"{title:<{WIDTH - 1}}"[: WIDTH - 1], curses.A_REVERSE)
@@ -153,13 +154,13 @@ class Screen:
         shown = (f"> {self.typed}"[-(WIDTH - 2) :], curses.A_NORMAL) if self.typed else (KEYS, curses.A_DIM)
         self.put(height - 1, *shown)
 
-    def values(self, room):
+    def values(self, room: int) -> list[str]:
         """The values of the registers, which stand below the events, with an empty line before them; nothing if there
         is no room for all of them, or they are shown instead of the machine."""
         is_shown = self.commands.pane == VALUES
         return [] if is_shown or room <= REGISTER_LINES else ["", *self.operation.value_lines()[:REGISTER_LINES]]
 
-    def pane(self, height):
+    def pane(self, height: int) -> list[str]:
         """The machine in at most so many lines, or what is shown instead of it."""
         lines = self.commands.lines() if self.commands.pane else board(self.operation.view)
         if self.commands.pane == SOURCE:
@@ -172,12 +173,11 @@ class Screen:
         self.scrolled = min(self.scrolled, max(len(lines) - height, 0))
         return lines[max(len(lines) - height - self.scrolled, 0) :][:height]
 
-    def put_all(self, lines):
-        """Puts lines below the title."""
+    def put_all(self, lines: Iterable[str]) -> None:
         for at, line in enumerate(lines, 1):
             self.put(at, line)
 
-    def draw_offers(self, at, count):
+    def draw_offers(self, at: int, count: int) -> None:
         """Draws as many of the events that may be tried as there is room for, the chosen one among them."""
         first = max(self.chosen - count + 1, 0)
         for number, offer in enumerate(self.offers[first : first + count], first):
@@ -185,7 +185,7 @@ class Screen:
             look = curses.A_REVERSE if is_chosen else curses.A_DIM if offer.refusal else curses.A_NORMAL
             self.put(at + number - first, f"{'>' if is_chosen else ' '} {offered(offer)}", look)
 
-    def put(self, line, text, look=curses.A_NORMAL):
+    def put(self, line: int, text: str, look: int = curses.A_NORMAL) -> None:
         """Puts a text into a line of the window. A character that the terminal's code hasn't is put as its code."""
         code = self.window.encoding
         self.window.addstr(line, 0, text.encode(code, "backslashreplace").decode(code)[:WIDTH], look)

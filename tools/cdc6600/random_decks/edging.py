@@ -1,9 +1,11 @@
 """Programs at the edges: instructions on zeros and on the largest and the smallest numbers, shifts by the counts at
 which they differ, and addresses at the ends of the field and of 18 bits. Each result is stored at once."""
 
-from cdc6600.shared.instructions import ROWS
+from typing import Sequence
 
-from .draws import INDEX_ONES, WORD_ONES
+from cdc6600.shared.instructions import ROWS, Instruction
+
+from .draws import INDEX_ONES, WORD_ONES, Draws
 from .jobs import STOP, Job, alone
 from .pieces import NOMINAL, mark, store_next, word_on_x
 from .programs import Label, Less, spelled
@@ -29,8 +31,8 @@ ON_X, ON_B = tuple(code for code in ROWS if code[:2] == "03"), ("04", "05", "06"
 class Edging:
     """A program of pieces, each with an instruction at an edge."""
 
-    def __init__(self, draws):
-        self.draws, self.job, self.new_words = draws, Job(draws, kept=KEPT), []
+    def __init__(self, draws: Draws) -> None:
+        self.draws, self.job, self.new_words = draws, Job(draws, kept=KEPT), list[Label]()
         self.code, table = self.job.code, self.job.table
         for at in OF_WORDS:
             table[at] = WORDS[at % len(WORDS)] if draws.chance(0.8) else draws.telling()
@@ -40,38 +42,37 @@ class Edging:
         table[0] = 0
         self.job.package.b[ZERO] = INDEX_ONES
 
-    def load(self, number, among):
-        """Loads a word of the table into an X register."""
+    def load(self, number: int, among: Sequence[int]) -> None:
         self.code.add(spelled("51", i=number, j=0, K=self.draws.one_of(among)))
 
-    def set_index(self, begin, number, value):
+    def set_index(self, begin: str, number: int, value: int) -> None:
         """Sets an A or a B register, by the first digit of its row. A sum gives -0 only of two terms of -0."""
         self.code.add(spelled(f"{begin}1", i=number, j=ZERO if value == INDEX_ONES else 0, K=value))
 
-    def keep(self, code, *copies, **fields):
+    def keep(self, code: str, *copies: Instruction, **fields: int | Label) -> None:
         """An instruction of this row on the registers that pieces set, and the store of its result."""
-        fields = {"i": RESULT, "j": FIRST, "k": SECOND, "K": self.draws.one_of(INDEXES)} | fields
+        fields = {"i": RESULT, "j": FIRST, "k": SECOND, "K": self.draws.one_of(INDEXES), **fields}
         self.code.add(spelled(code, **fields), *copies, store_next(RESULT))
 
-    def on_words(self):
+    def on_words(self) -> None:
         """An instruction on words."""
         self.load(FIRST, OF_WORDS)
         self.load(SECOND, OF_WORDS)
         self.keep(self.draws.one_of(ON_WORDS))
 
-    def by_count(self):
+    def by_count(self) -> None:
         """A mask, or a shift by the count of its text."""
         self.load(FIRST, OF_WORDS)
         self.code.add(spelled("10", i=RESULT, j=FIRST))
         self.keep(self.draws.one_of(BY_COUNTS), jk=self.draws.one_of(COUNTS))
 
-    def by_magnitude(self):
+    def by_magnitude(self) -> None:
         """A shift by a B register."""
         self.load(SECOND, OF_WORDS)
         self.set_index("6", FIRST, self.draws.signed(self.draws.one_of(MAGNITUDES), INDEX_ONES))
         self.keep(self.draws.one_of(NOMINAL))
 
-    def sum(self):
+    def sum(self) -> None:
         """A sum for A0, for a B register or for an X register."""
         code = self.draws.one_of(SUMS)
         self.load(FIRST, OF_INDEXES)
@@ -80,10 +81,10 @@ class Edging:
         self.set_index("5", 0, self.draws.one_of(INDEXES))
         number = {"5": 0, "6": self.draws.one_of((0, FIRST)), "7": RESULT}[code[0]]
         # A difference to +0 keeps a -0, and a sum doesn't.
-        copies = {"5": [spelled("75", i=RESULT, j=0, k=0)], "6": [spelled("77", i=RESULT, j=number, k=0)], "7": []}
-        self.keep(code, *copies[code[0]], i=number, j=0 if "Aj" in ROWS[code].operands else FIRST)
+        copies = {"5": [spelled("75", i=RESULT, j=0, k=0)], "6": [spelled("77", i=RESULT, j=number, k=0)]}
+        self.keep(code, *copies.get(code[0], []), i=number, j=0 if "Aj" in ROWS[code].operands else FIRST)
 
-    def branch(self):
+    def branch(self) -> None:
         """A branch over a mark."""
         target = Label()
         if self.draws.chance(0.6):
@@ -96,21 +97,22 @@ class Edging:
         self.code.add(*mark(self.draws))
         self.code.here(target)
 
-    def jump(self):
+    def jump(self) -> None:
         """A jump over a mark, by a sum that may go around the end of 18 bits."""
         target, part = Label(), self.draws.one_of(INDEXES + BESIDE)
         self.set_index("6", FIRST, part)
         self.code.add(spelled("02", i=FIRST, K=Less(target, part)), *mark(self.draws))
         self.code.here(target)
 
-    def reference(self):
+    def reference(self) -> None:
         """A load or a store of the field's last word, of the one after it, or of an address out of range."""
         length = self.job.field_length
-        address = self.draws.one_of((Less(length, 1), length, *FAR))
+        addresses: list[int | Label] = [Less(length, 1), length, *FAR]
+        address = self.draws.one_of(addresses)
         number = self.draws.one_of((*LOADED, STORED))
         self.code.add(spelled("51", i=number, j=0, K=address), spelled("10", i=RESULT, j=number), store_next(RESULT))
 
-    def held_word(self):
+    def held_word(self) -> None:
         """A store over the word that is held. Its other instructions are issued as they were fetched."""
         new, held = Label(), Label()
         self.new_words.append(new)
@@ -118,7 +120,7 @@ class Edging:
         self.code.here(held)
         self.code.add(spelled("51", i=STORED, j=0, K=held), *word_on_x(self.draws)[:1], store_next(RESULT))
 
-    def finish(self):
+    def finish(self) -> str:
         """Ends by a stop, or by a jump to an address out of range, and puts the new words of code behind it."""
         target = self.draws.one_of(FAR)
         ends = (STOP, spelled("02", i=0, K=target), spelled("02", i=ZERO, K=INDEX_ONES), spelled("010", K=target))
@@ -129,8 +131,7 @@ class Edging:
         return alone(self.draws, self.job)
 
 
-def edges(draws):
-    """The deck of a program at the edges."""
+def edges(draws: Draws) -> str:
     program = Edging(draws)
     pieces = (program.on_words, program.by_count, program.by_magnitude, program.sum, program.sum, program.branch,
               program.jump, program.reference, program.held_word)

@@ -1,8 +1,10 @@
 """Programs that are exchanged for each other while they run, and a monitor that changes their packages."""
 
+from typing import Callable, Sequence
+
 from cdc6600.limits import PACKAGE_WORDS
 
-from .draws import INDEX_ONES
+from .draws import INDEX_ONES, Draws
 from .jobs import STOP, Job
 from .pieces import keep
 from .programs import Deck, Label, spelled
@@ -14,7 +16,7 @@ TURNS, MOST_BETWEEN = (40, 90), 60
 X_WORDS = 8
 
 
-def looping(draws, job, add):
+def looping(draws: Draws, job: Job, add: Callable[[], None]) -> None:
     """A program that goes through a loop, which has what is added, and stops."""
     begin = Label()
     job.code.add(spelled("61", i=COUNTER, j=0, K=draws.between(*TURNS)))
@@ -26,15 +28,15 @@ def looping(draws, job, add):
     job.code.add(spelled("05", i=COUNTER, j=0, K=begin), STOP)
 
 
-def keeping(draws, job):
+def keeping(draws: Draws, job: Job) -> None:
     """A program that keeps what registers have."""
     looping(draws, job, lambda: job.code.add(*keep(draws)))
 
 
-def monitoring(draws, job, packages):
+def monitoring(draws: Draws, job: Job, packages: Sequence[int]) -> None:
     """A program that loads and changes X registers in the packages."""
 
-    def add():
+    def add() -> None:
         """Loads a register of a package, and stores a sum over one."""
         at = [draws.one_of(packages) + X_WORDS + draws.below(X_WORDS) for _ in range(2)]
         number = draws.between(1, 5)
@@ -44,7 +46,7 @@ def monitoring(draws, job, packages):
     looping(draws, job, add)
 
 
-def ask(draws, deck, packages, start):
+def ask(draws: Draws, deck: Deck, packages: Sequence[int], start: int) -> None:
     """Asks for packages at drawn times, but not for the one of the start: it has the registers of the booted machine,
     whose field is empty, so nothing would come after it."""
     issued = 0
@@ -54,7 +56,7 @@ def ask(draws, deck, packages, start):
         deck.ask(package, issued)
 
 
-def exchanges(draws):
+def exchanges(draws: Draws) -> str:
     """The deck of several packages, and of requests for them at drawn times."""
     deck, count = Deck(), draws.between(3, 5)
     packages = draws.shuffled([PACKAGE_WORDS * n for n in range(count)])

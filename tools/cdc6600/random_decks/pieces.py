@@ -1,9 +1,11 @@
 """Pieces of programs: instructions on registers, and those that keep what registers have."""
 
 from functools import lru_cache
+from typing import Sequence
 
-from cdc6600.shared.instructions import ROWS
+from cdc6600.shared.instructions import ROWS, Instruction
 
+from .draws import Draws
 from .programs import spelled
 
 # The rows that set a register and make no branch; of those that set an A register, A0 makes no reference.
@@ -17,18 +19,18 @@ UNITS = ("Boolean", "Shift", "Long Add", "Divide", "Increment") * 3 + ("Boolean"
 
 
 @lru_cache
-def by_unit(codes):
+def by_unit(codes: tuple[str, ...]) -> dict[str, list[str]]:
     """The codes of each unit."""
     return {unit: [code for code in codes if ROWS[code].unit == unit] for unit in UNITS}
 
 
-def drawn_code(draws, codes):
-    """One of these codes."""
+def drawn_code(draws: Draws, codes: tuple[str, ...]) -> str:
     found = by_unit(codes)
     return draws.one_of(found[draws.one_of([unit for unit in UNITS if found[unit]])])
 
 
-def on_registers(draws, codes=ON_REGISTERS, xs=ALL, bs=ALL):
+def on_registers(draws: Draws, codes: tuple[str, ...] = ON_REGISTERS, xs: Sequence[int] = ALL,
+                 bs: Sequence[int] = ALL) -> list[Instruction]:
     """One or two instructions of these rows, whose results are among these registers, or A0. A shift by a B register
     comes after one that sets how far it goes, for the most part."""
     code = drawn_code(draws, codes)
@@ -41,23 +43,23 @@ def on_registers(draws, codes=ON_REGISTERS, xs=ALL, bs=ALL):
     return [spelled(code, **fields)]
 
 
-def word_on_x(draws):
+def word_on_x(draws: Draws) -> list[Instruction]:
     """The four instructions of a word, which set X registers alone."""
     return [it for _ in range(4) for it in on_registers(draws, SHORT_ON_X)]
 
 
-def keep(draws):
+def keep(draws: Draws) -> list[Instruction]:
     """Stores what a drawn register has into the next word after A6; of A registers it is A0."""
     number = draws.below(8)
     copies = (spelled("10", i=6, j=number), spelled("76", i=6, j=number, k=0), spelled("74", i=6, j=0, k=0))
     return [copies[draws.one_of((0, 0, 0, 1, 1, 2))], store_next(6)]
 
 
-def mark(draws):
+def mark(draws: Draws) -> list[Instruction]:
     """Stores a drawn number into the next word after A6, which shows that the program came here."""
     return [spelled("71", i=6, j=0, K=draws.index()), store_next(6)]
 
 
-def store_next(number):
+def store_next(number: int) -> Instruction:
     """Stores X6 or X7 into the next word after A6 or A7."""
     return spelled("50", i=number, j=number, K=1)

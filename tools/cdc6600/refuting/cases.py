@@ -14,9 +14,11 @@ import signal
 import subprocess
 import tempfile
 from dataclasses import dataclass
+from pathlib import Path
+from typing import IO, Iterable, Iterator
 
 from cdc6600.checks.drawn_sessions import drawn_session
-from cdc6600.shared.decks import PAGES, deck, decks, log_of, rows_of, sessions
+from cdc6600.shared.decks import PAGES, deck, decks, rows_of, sessions
 from cdc6600.shared.program import Program, followed
 
 from .choosing import STARTING
@@ -44,7 +46,7 @@ class Ran:
     printed: bytes
     told: bytes
 
-    def differs(self, right):
+    def differs(self, right: "Ran") -> str | None:
         """Where this run differs from the right one, in words; none where it doesn't."""
         if self == right:
             return None
@@ -61,7 +63,7 @@ class Ran:
         return f"the status is {self.status}, and with the right body {right.status}"
 
 
-def shown(line):
+def shown(line: bytes) -> str:
     """A line as it may be printed."""
     return line.decode("ascii", "replace")[:100]
 
@@ -71,17 +73,17 @@ class Case:
     """A command of an executable by its words, its input, and a name. A test has no input, and fails or not."""
 
     name: str
-    words: tuple
+    words: tuple[str, ...]
     text: bytes = b""
     is_test: bool = False
 
-    def differs(self, came, right):
+    def differs(self, came: Ran, right: Ran) -> str | None:
         """Where a run differs from the right one, in words; none where it doesn't."""
         if self.is_test and came.status:
             return "it fails" if not right.status else None
         return came.differs(right)
 
-    def run(self, file):
+    def run(self, file: Path) -> Ran:
         """How an executable does it. One that runs on is killed."""
         with tempfile.TemporaryFile() as printed, tempfile.TemporaryFile() as told, tempfile.TemporaryFile() as given:
             given.write(self.text)
@@ -99,39 +101,37 @@ class Case:
             return Ran(status, *(read(it) for it in (printed, told)))
 
 
-def limit():
+def limit() -> None:
     """Ends a program that prints on and on."""
     resource.setrlimit(resource.RLIMIT_FSIZE, (BYTES, BYTES))
 
 
-def read(file):
-    """What a program wrote to a file."""
+def read(file: IO[bytes]) -> bytes:
     file.seek(0)
     return file.read()
 
 
-def stored():
-    """The cases of the folder decks/."""
-    for it in sessions():
-        yield Case(str(it), ("events",), it.text)
-        yield Case(f"{it} with a budget of 2", ("events", "--budget", "2"), it.text)
-        yield Case(f"{it} by replay", ("replay", log_of(it.answers)), it.text)
-        yield Case(f"{it} by replay with reads in between", ("replay", in_parts(log_of(it.answers))), it.text)
+def stored() -> Iterator[Case]:
+    for session in sessions():
+        yield Case(str(session), ("events",), session.text)
+        yield Case(f"{session} with a budget of 2", ("events", "--budget", "2"), session.text)
+        yield Case(f"{session} by replay", ("replay", session.log), session.text)
+        yield Case(f"{session} by replay with reads in between", ("replay", in_parts(session.log)), session.text)
     for it in (it for it in decks() if it.name not in LONG):
         yield Case(f"{it} by run --sequential", ("run", "--sequential", *it.arguments), it.text)
         if it.listing is not None:
             yield Case(f"{it} by list", ("list",), it.text)
-            yield Case(f"{it} by replay --log-follows", ("replay", "--log-follows"), followed(it.text, log_of(it.dump)))
+            yield Case(f"{it} by replay --log-follows", ("replay", "--log-follows"), followed(it.text, it.log))
         if it.dump is not None:
-            yield Case(f"{it} by replay", ("replay", log_of(it.dump)), it.text)
+            yield Case(f"{it} by replay", ("replay", it.log), it.text)
 
 
-def in_parts(log):
+def in_parts(log: str) -> str:
     """A log in which each instruction is an entry of its own, after a peripheral read."""
     return re.sub(r"I([0-9]+)", lambda it: " ".join(["R0 I1"] * int(it[1])), log)
 
 
-def requests(*words):
+def requests(*words: str) -> Iterator[Case]:
     """The cases of the page of requests for exchanges, by this command."""
     packages = deck("four-packages").text
     for at, (lines, budget, *_) in enumerate(rows_of(PAGES / "requests.md"), 1):
@@ -139,7 +139,7 @@ def requests(*words):
         yield Case(f"row {at} of {PAGES.name}/requests.md by {' '.join(words)}", (*words, "--budget", budget), text)
 
 
-def rows():
+def rows() -> Iterator[Case]:
     """The cases of the pages: decks that are refused, and requests for exchanges."""
     for at, row in enumerate(rows_of(PAGES / "refusals.md"), 1):
         text = row[0].replace("\\n", "\n").replace("\\r", "\r").encode()
@@ -147,7 +147,7 @@ def rows():
     yield from requests("run", "--sequential")
 
 
-def refused():
+def refused() -> Iterator[Case]:
     """Command lines that are refused, and lines of a schedule that are no events."""
     for words in USAGE:
         yield Case(f"the command line {' '.join(words)!r}", words)
@@ -156,16 +156,15 @@ def refused():
         yield Case(f"the event {line!r}", ("events",), text + f"ask 40\n{line}\nend\n".encode())
 
 
-def threaded():
-    """The runs by threads."""
+def threaded() -> list[Case]:
     found = [it for it in decks() if it.name not in LONG and not it.logs]
     return [*(Case(f"{it} by run", ("run", *it.arguments), it.text) for it in found), *requests("run")]
 
 
-def drawn(program):
+def drawn(program: Path) -> Iterator[Case]:
     """Drawn sessions, whose events are drawn as the right program answers. They are the same each time."""
     for number in range(1, DRAWN + 1):
-        text, made, _ = drawn_session(Program(program), random.Random(f"wrong bodies {number}"))
+        text, made, _ = drawn_session(Program(str(program)), random.Random(f"wrong bodies {number}"))
         events = "".join(f"{event}\n" for event, _ in made)
         yield Case(f"drawn session {number}", ("events",), (text + events).encode("latin-1"))
 
@@ -173,11 +172,11 @@ def drawn(program):
 class Cases:
     """Cases of an executable, each with what the right one does."""
 
-    def __init__(self, file, plain, by_threads=()):
+    def __init__(self, file: Path, plain: Iterable[Case], by_threads: Iterable[Case] = ()) -> None:
         self.plain, self.by_threads = list(plain), list(by_threads)
         self.right = {case.name: case.run(file) for case in self.by_threads + self.plain}
 
-    def difference(self, file, is_threaded=False):
+    def difference(self, file: Path, is_threaded: bool = False) -> str | None:
         """The first case in which an executable does something else, and where it differs; none if there is no such
         case."""
         for case in (self.by_threads + self.plain if is_threaded else self.plain + self.by_threads):
@@ -187,12 +186,11 @@ class Cases:
         return None
 
 
-def of_program(file):
-    """The cases of the program."""
+def of_program(file: Path) -> Cases:
     return Cases(file, [*stored(), *rows(), *refused(), *drawn(file)], threaded())
 
 
-def of_tests(crate, file):
+def of_tests(crate: str, file: Path) -> Cases:
     """The cases of a crate's tests, by its executable."""
     listed = subprocess.run([file, "--list"], capture_output=True, text=True, check=False).stdout
     names = [line.removesuffix(": test") for line in listed.splitlines() if line.endswith(": test")]

@@ -10,12 +10,14 @@ import re
 import shutil
 import threading
 from dataclasses import dataclass, field
+from pathlib import Path
+from typing import Iterable, Iterator, Sequence
 
 from cdc6600.building import unproved
 from cdc6600.crates.kit import checker
-from cdc6600.crates.source import Sources
+from cdc6600.crates.source import Item, Sources
 from cdc6600.crates.table import Table
-from cdc6600.wrong_bodies.edits import read_bodies
+from cdc6600.wrong_bodies.edits import Body, Region, read_bodies
 
 # The constant of the first crate; each further one has the next constant. The number of a body is below it.
 FIRST = 0x5EED_C0DE_7A11_0001
@@ -30,14 +32,14 @@ class Chosen:
     """A crate with all its wrong bodies: the texts of its sources, the number of each body by its name, and the names
     of those that can't be chosen."""
 
-    texts: dict = field(default_factory=dict)
-    numbers: dict = field(default_factory=dict)
-    left: list = field(default_factory=list)
+    texts: dict[str, str] = field(default_factory=dict)
+    numbers: dict[str, int] = field(default_factory=dict)
+    left: list[str] = field(default_factory=list)
 
 
-def places_of(body, source):
+def places_of(body: Body, source: Sources) -> list[tuple[Item, Region]]:
     """The functions in which a body is wrong, each with what is wrong there; none if it changes anything else."""
-    found = []
+    found: list[tuple[Item, Region]] = []
     for region in body.regions:
         path, start, end, lines = region
         inside = [it for it in source.functions() if it.path == path and it.body_start < start and end <= it.last]
@@ -47,9 +49,9 @@ def places_of(body, source):
     return found
 
 
-def with_bodies(source, bodies):
+def with_bodies(source: Sources, bodies: Iterable[Body]) -> Chosen:
     """The texts of a crate with all these bodies in their functions."""
-    chosen, places = Chosen(), {}
+    chosen, places = Chosen(), dict[Item, list[tuple[int, Region]]]()
     for body in bodies:
         found = places_of(body, source)
         if not found:
@@ -65,7 +67,7 @@ def with_bodies(source, bodies):
     return chosen
 
 
-def arms_of(item, wrong, lines):
+def arms_of(item: Item, wrong: Iterable[tuple[int, Region]], lines: Sequence[str]) -> Iterator[str]:
     """The lines of a function's body with the wrong ones, each by its number, before the right one."""
     first, last = item.body_start + 1, item.last
     for number, (_, start, end, new) in wrong:
@@ -75,7 +77,7 @@ def arms_of(item, wrong, lines):
     yield from ["{", *lines[first:last], "}"]
 
 
-def write_texts(folder, texts, constant):
+def write_texts(folder: Path, texts: dict[str, str], constant: int) -> None:
     """Writes the sources of a crate with its constant."""
     root = next(it for it in ROOTS if it in texts)
     number = f"\n/// The number of the wrong body that runs.\nfn {CHOSEN}() -> u64 {{\n    {constant}\n}}\n"
@@ -87,8 +89,8 @@ class Choice:
     """A copy of all crates that has their wrong bodies, in a folder of its own. `constants` has the constant of each
     crate with wrong bodies, and `numbers` the number of each body by its crate and its name."""
 
-    def __init__(self, table, room):
-        self.room, self.constants, self.numbers = room, {}, {}
+    def __init__(self, table: Table, room: Path) -> None:
+        self.room, self.constants, self.numbers = room, dict[str, int](), dict[tuple[str, str], int]()
         for name in table.lines:
             folder = table.folder(name)
             target = room / folder.relative_to(table.root)
@@ -102,7 +104,7 @@ class Choice:
         table.write(room, list(table.lines))
         self.table = Table(room)
 
-    def built(self, crate, is_test=False):
+    def built(self, crate: str, is_test: bool = False) -> "Executable":
         """The executable of a program, or that of a crate's tests.
 
         Raises Unproved if it can't be built."""
@@ -113,33 +115,30 @@ class Choice:
         return Executable(self, room, data)
 
 
-def bytes_of(number):
-    """A number as an executable has it."""
+def bytes_of(number: int) -> bytes:
     return number.to_bytes(8, "little")
 
 
 class Executable:
     """An executable in which a body can be chosen."""
 
-    def __init__(self, choice, room, data):
+    def __init__(self, choice: Choice, room: Path, data: bytes) -> None:
         self.choice, self.room, self.data = choice, room, data
 
-    def right(self):
+    def right(self) -> Path:
         """A file of the executable with the right bodies."""
         return self.put("right", self.data)
 
-    def has(self, crate, body):
+    def has(self, crate: str, body: str) -> bool:
         """Whether a body can be chosen in it."""
-        constant = self.choice.constants.get(crate)
-        return (crate, body) in self.choice.numbers and bytes_of(constant) in self.data
+        return (crate, body) in self.choice.numbers and bytes_of(self.choice.constants[crate]) in self.data
 
-    def wrong(self, crate, body):
+    def wrong(self, crate: str, body: str) -> Path:
         """A file of the executable in which this body is chosen."""
         constant, number = self.choice.constants[crate], self.choice.numbers[crate, body]
         return self.put(f"{crate}-{body}", self.data.replace(bytes_of(constant), bytes_of(number)))
 
-    def put(self, name, data):
-        """Writes an executable."""
+    def put(self, name: str, data: bytes) -> Path:
         file = self.room / name
         with STARTING:
             file.write_bytes(data)

@@ -9,44 +9,45 @@ own, and are only run if no case of the program refutes it. A body whose edit sa
 import tempfile
 from concurrent.futures import ThreadPoolExecutor
 from pathlib import Path
+from typing import Iterable, Sequence
 
 from cdc6600.building.building import Unproved
-from cdc6600.crates.table import Unreadable
-from cdc6600.wrong_bodies.edits import UNSURE
+from cdc6600.crates.table import Table, Unreadable
+from cdc6600.wrong_bodies.edits import UNSURE, Body
+from cdc6600.wrong_bodies.tries import Crate
 from cdc6600.wrong_bodies.verdicts import CANT_TELL, REFUTED, Verdict
 
-from .cases import of_program, of_tests
-from .choosing import Choice
+from .cases import Cases, of_program, of_tests
+from .choosing import Choice, Executable
 
 PROGRAM = "operator_main"
 # The crates from this one on are for runs by threads.
 LOCK = "machine_lock"
 
 
-def unsure_in(crates):
+def unsure_in(crates: Iterable[Crate]) -> list[tuple[Crate, Body]]:
     """The bodies of which it can't be told, each with its crate."""
     return [(crate, body) for crate in crates for body in crate.bodies
             if body.name in crate.verdicts and crate.verdicts[body.name].kind == CANT_TELL]
 
 
-def left_in(crates):
+def left_in(crates: Iterable[Crate]) -> list[tuple[Crate, Body]]:
     """Those of which nobody can tell yet."""
     return [(crate, body) for crate, body in unsure_in(crates) if UNSURE not in body.notes]
 
 
-def has_tests(folder):
-    """Whether a crate has tests."""
+def has_tests(folder: Path) -> bool:
     return any("#[test]" in file.read_text(encoding="utf-8") for file in Path(folder, "src").rglob("*.rt"))
 
 
 class Refuting:
     """The run: a copy of the crates with all wrong bodies, and how many bodies run side by side."""
 
-    def __init__(self, table, crates, room, at_once):
+    def __init__(self, table: Table, crates: Sequence[Crate], room: Path, at_once: int) -> None:
         self.table, self.crates, self.at_once = table, crates, at_once
         self.choice = Choice(table, room)
 
-    def run(self):
+    def run(self) -> None:
         """Tries the program first, and then the tests of each crate above a body that is left."""
         program = self.choice.built(PROGRAM)
         self.try_all(program, of_program(program.right()))
@@ -56,11 +57,11 @@ class Refuting:
                 tests = self.choice.built(name, is_test=True)
                 self.try_all(tests, of_tests(name, tests.right()))
 
-    def try_all(self, executable, cases):
+    def try_all(self, executable: Executable, cases: Cases) -> None:
         """Tries all bodies that are left and can be chosen in an executable."""
         left = [(crate, body) for crate, body in left_in(self.crates) if executable.has(crate.name, body.name)]
 
-        def difference(pair):
+        def difference(pair: tuple[Crate, Body]) -> str | None:
             crate, body = pair
             file = executable.wrong(crate.name, body.name)
             try:
@@ -75,7 +76,7 @@ class Refuting:
                     print(f"{crate.name}/{body.name}: refuted by {found}", flush=True)
 
 
-def refute(table, crates, at_once):
+def refute(table: Table, crates: Sequence[Crate], at_once: int) -> None:
     """Runs the bodies of which it can't be told, so many at once. It notes those that a case refutes, and prints each
     with its case.
 

@@ -3,8 +3,11 @@ the crates.
 """
 
 import re
+from pathlib import Path
+from typing import Iterator
 
-from cdc6600.crates.crate import EDITS, crates
+from cdc6600.crates.crate import EDITS, Crate, crates
+from cdc6600.crates.source import Item
 from cdc6600.shared.program import ROOT
 
 IMPORT = re.compile(r"use Rattle\.[a-z_0-9]+\.specs\.[A-Za-z]")
@@ -14,7 +17,7 @@ PARTS = ("src", "specs", "proofs", *EDITS)
 BY_HAND = ("Answers.antt", "Invariants.antt", "Proof.antt")
 
 
-def imported(line):
+def imported(line: str) -> tuple[dict[str, str], dict[str, str]]:
     """What a `use` of definitions brings in: each name with its definition, as `machine/Tokens:is_live`, and a name for
     a module with that module."""
     if not IMPORT.search(line) or ".specs.declared." in line:
@@ -32,11 +35,11 @@ class Module:
     """A file of definitions: its name, as `machine/Tokens`, what it brings in, and each definition with its lines and
     the number of its first line."""
 
-    def __init__(self, file):
+    def __init__(self, file: Path) -> None:
         self.path = str(file.relative_to(ROOT))
         self.name = self.path.removeprefix("crates/").replace("/specs/", "/", 1).removesuffix(".antt")
-        self.bound, self.alias, self.definitions, self.numbers = {}, {}, {}, {}
-        current = None
+        self.bound, self.alias = dict[str, str](), dict[str, str]()
+        self.definitions, self.numbers, current = dict[str, str](), dict[str, int](), None
         for number, line in enumerate(file.read_text(encoding="utf-8").split("\n"), 1):
             if line.startswith("use "):
                 bound, alias = imported(line)
@@ -47,13 +50,13 @@ class Module:
                 current = found[1] if found else current
                 self.add(current, line, number)
 
-    def add(self, name, line, number):
+    def add(self, name: str | None, line: str, number: int) -> None:
         """Adds a line of this number to a definition."""
         if name:
             self.numbers.setdefault(name, number)
             self.definitions[name] = f"{self.definitions.get(name, '')} {line}"
 
-    def named_in(self, name):
+    def named_in(self, name: str) -> Iterator[str]:
         """What the lines of a definition name, each as `machine/Tokens:is_live`; some are no definitions."""
         text = self.definitions[name]
         for found in NAME.finditer(text):
@@ -70,17 +73,18 @@ class Module:
 class Files:
     """All that the page may name."""
 
-    def __init__(self):
+    def __init__(self) -> None:
         found = crates()
         self.modules = {it.name: it for crate in found for it in map(Module, crate.files("specs"))}
-        self.functions, self.cited, self.paths, self.by_hand = {}, [], set(), {}
+        self.functions, self.cited = dict[tuple[str, str], Item](), list[str]()
+        self.paths, self.by_hand = set[str](), dict[tuple[str, str], str]()
         for source in (source for crate in found for source in crate.sources):
             self.functions.update({(source.path, it.label): it for it in source.functions})
             self.cited += [name for line in source.lines for name in imported(line)[0].values()]
         for crate in found:
             self.add_paths(crate)
 
-    def add_paths(self, crate):
+    def add_paths(self, crate: Crate) -> None:
         """Adds the files of a crate and the folders that they stand in, and its proofs by hand. Such a proof has a
         folder with the name of its function, below one with the name of its type if it has one."""
         for file in (file for part in PARTS for file in (crate.folder / part).rglob("*")):
@@ -92,14 +96,14 @@ class Files:
                 folder = "/".join(steps[:-1])
                 self.by_hand[crate.name, (owner + steps[-2]).replace("+", "", 1)] = folder
 
-    def has_definition(self, name):
+    def has_definition(self, name: str) -> bool:
         """Whether there is a definition of this name, as `machine/Tokens:is_live`."""
         module, _, definition = name.partition(":")
         return module in self.modules and definition in self.modules[module].definitions
 
-    def all_cited(self):
+    def all_cited(self) -> set[str]:
         """Every definition that a contract cites, or a definition that one cites."""
-        left, found = list(self.cited), set()
+        left, found = list(self.cited), set[str]()
         while left:
             name = left.pop()
             if name not in found and self.has_definition(name):
@@ -109,6 +113,6 @@ class Files:
         return found
 
 
-def placed(name, folder):
+def placed(name: str, folder: str) -> str:
     """The path of what stands in a folder of the crate that a name begins with."""
     return "crates/" + name.replace("/", f"/{folder}/", 1)

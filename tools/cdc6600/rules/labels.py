@@ -23,7 +23,7 @@ class Label:
     text: str
     variant: str
 
-    def is_in(self, line):
+    def is_in(self, line: str) -> bool:
         """Whether a line names the label. An entry of a log doesn't, and `E10 to E12` names the labels between."""
         # Most lines have neither, and are soon left.
         if self.number not in line and " to E" not in line:
@@ -33,18 +33,18 @@ class Label:
         number = int(self.number[1:])
         return bool(re.search(rf"\b{self.number}\b", words)) or any(number in span for span in spans)
 
-    def is_in_code(self, line):
+    def is_in_code(self, line: str) -> bool:
         """Whether a line of code names the variant."""
         return self.variant in line and bool(re.search(rf"\bRefusal::{self.variant}\b", line))
 
-    def is_promised_in(self, text):
+    def is_promised_in(self, text: str) -> bool:
         """Whether a text on the errors of a call has the variant in backquotes."""
         return f"`{self.variant}`" in text
 
-    def name_in(self, text):
+    def name_in(self, text: str) -> re.Pattern[str] | None:
         """What finds the variant in the definitions, proofs or contracts of a file with this text; nothing if the file
         brings in no variant of that name."""
-        names = []
+        names = list[str]()
         for several, alias in IMPORT.findall(text):
             pairs = [name.strip().partition(" as ") for name in several.split(",")]
             names += [it or name for name, _, it in pairs if name == self.variant]
@@ -52,7 +52,7 @@ class Label:
         return re.compile(rf"(?<![\w.:])(?:{'|'.join(names)})\b(?!:)") if names else None
 
 
-def labels():
+def labels() -> dict[str, Label]:
     """The labels by their numbers, in their order."""
     found = ARM.findall((ROOT / SOURCE).read_text(encoding="utf-8"))
     return {number: Label(number, text.strip(), variant) for variant, text, number in found}

@@ -2,6 +2,7 @@
 
 import re
 from dataclasses import dataclass
+from typing import Iterator
 
 from cdc6600.shared.program import ROOT
 
@@ -17,10 +18,10 @@ class Row:
 
     number: int
     rule: str
-    cells: dict
+    cells: dict[str, str]
 
 
-def lines_of_rules():
+def lines_of_rules() -> Iterator[tuple[int, str]]:
     """The lines of the tables of rules with their numbers, the head of each table among them."""
     is_in_rules = False
     for number, line in enumerate((ROOT / PAGE).read_text(encoding="utf-8").split("\n"), 1):
@@ -29,20 +30,19 @@ def lines_of_rules():
             yield number, line
 
 
-def rows():
-    """The rules of the page."""
+def rows() -> Iterator[Row]:
     for number, line in lines_of_rules():
         rule, *cells = (cell.strip() for cell in line.split("|")[1:])
         if line != HEAD:
             yield Row(number, rule, dict(zip(COLUMNS, [*cells, *[""] * len(COLUMNS)])))
 
 
-def items_in(cell):
+def items_in(cell: str) -> list[str]:
     """What a cell names in backquotes."""
     return re.findall("`([^`]*)`", cell)
 
 
-def functions_in(text):
+def functions_in(text: str) -> tuple[list[tuple[str, list[str]]], str]:
     """The functions of `function (clause, clause), Type::function`, each with its clauses, and the rest of the text,
     which can't be read."""
     found = []

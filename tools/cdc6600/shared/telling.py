@@ -7,12 +7,13 @@ list has. A part in brackets is left out if a name in it has nothing, and then w
 """
 
 import re
+from typing import Iterable, Mapping, Sized
 
 PART, BAR = re.compile(r"\[((?:[^][{}]|\{[^{}]*\})*)\]"), re.compile(r"\|(?![^{]*\})")
 NAME = re.compile(r"\{(\??)(\w+)(?::([^|{}]*)\|([^{}]*))?\}")
 
 
-def enumerated(parts):
+def enumerated(parts: Iterable[str]) -> str:
     """Parts of a sentence with commas between them, and an `and` before the last."""
     parts = list(parts)
     if len(parts) < 2:
@@ -20,33 +21,35 @@ def enumerated(parts):
     return f"{', '.join(parts[:-1])} and {parts[-1]}"
 
 
-def plural(parts, one, several):
+def plural(parts: Sized, one: str, several: str) -> str:
     """The word for one, or that for several."""
     return one if len(parts) == 1 else several
 
 
-def sentence(text):
+def sentence(text: str) -> str:
     """A text that begins with a capital."""
     return text[:1].upper() + text[1:]
 
 
-def numbered(numbers):
+def numbered(numbers: Iterable[int]) -> str:
     """Reservations by their numbers alone."""
     numbers = list(numbers)
     return f"{plural(numbers, 'reservation', 'reservations')} {enumerated(map(str, numbers))}"
 
 
-def filled(text, given):
+def filled(text: str, given: Mapping[str, str | list[str] | bool]) -> str:
     """A text with what is given for its names."""
-    def part(found):
+    def part(found: re.Match[str]) -> str:
         first, *otherwise = BAR.split(found[1])
         return first if all(given.get(it[2]) for it in NAME.finditer(first)) else "".join(otherwise)
 
-    def name(found):
+    def name(found: re.Match[str]) -> str:
         is_test, it, one, several = found.groups()
         value = given.get(it, "")
+        if is_test or isinstance(value, bool):
+            return ""
         if one is not None:
             return plural(value, one, several)
-        return "" if is_test else enumerated(value) if isinstance(value, list) else value
+        return enumerated(value) if isinstance(value, list) else value
 
     return NAME.sub(name, PART.sub(part, text))

@@ -8,21 +8,24 @@ either, and neither does a peripheral access.
 
 from collections import Counter
 from dataclasses import dataclass, field
+from typing import Callable
 
-from cdc6600.drawing.following import ENDS
+from cdc6600.drawing.following import ENDS, Following, Replays, Reservation
 from cdc6600.limits import BANKS
+
+from .times import Times
 
 # What a part that waits is said to wait for if nothing else is known: the schedule makes its event later.
 ORDER = "order"
 PARCELS = 4
 
 
-def no_cause(_part, _cycles):
+def no_cause(_part: "Part", _cycles: int) -> str:
     """The cause of a wait, where nobody asks."""
     return ORDER
 
 
-def after(times, part, event):
+def after(times: Times, part: "Part | Reservation", event: str) -> tuple[str, int]:
     """The event of a reservation that comes after this one, empty if none does, and how many cycles later it is
     ready."""
     if event == "read":
@@ -54,15 +57,14 @@ class Part:
     begun: int = 0
     ended: int | None = None
     work: int = 0
-    waits: Counter = field(default_factory=Counter)
+    waits: Counter[str] = field(default_factory=Counter)
 
-    def then(self, event, now, cycles=0):
+    def then(self, event: str, now: int, cycles: int = 0) -> None:
         """Works for so many cycles from now on, and is ready for its next event then."""
         self.event, self.ready = event, now + cycles
         self.work += cycles
 
-    def end(self, now):
-        """Its last event."""
+    def end(self, now: int) -> None:
         self.event, self.ended = "", now
 
 
@@ -70,12 +72,13 @@ class Clock:
     """Counts minor cycles while events are made. `cause` is called for each part that is ready and waits when time goes
     on, with the cycles of the wait; it says what the part waits for. `first` is the cycle of the first issue."""
 
-    def __init__(self, times, cause=no_cause):
+    def __init__(self, times: Times, cause: Callable[[Part, int], str] = no_cause) -> None:
         self.times, self.cause, self.now = times, cause, 0
-        self.issuing, self.parts, self.pending, self.banks = Part(0, "issue", 0), [], [], {}
-        self.first = None
+        self.issuing, self.parts, self.pending = Part(0, "issue", 0), list[Part](), list[Part]()
+        self.banks: dict[int, int] = {}
+        self.first: int | None = None
 
-    def advance(self, cycle):
+    def advance(self, cycle: int) -> None:
         """Goes on to a cycle, unless it is over."""
         if cycle <= self.now:
             return
@@ -85,13 +88,12 @@ class Clock:
                 part.waits[self.cause(part, cycle - begin)] += cycle - begin
         self.now = cycle
 
-    def issue(self, text):
-        """An instruction is issued."""
+    def issue(self, text: str) -> None:
         self.advance(self.issuing.ready)
         self.first = self.now if self.first is None else self.first
         self.issuing.then("issue", self.now, self.times.issue(text))
 
-    def reserve(self, number, unit, text, is_taken, address=None):
+    def reserve(self, number: int, unit: str, text: str, is_taken: bool, address: int | None = None) -> Part:
         """The instruction that was just issued reserves a unit; its part. A branch is taken or not, and a reference in
         range has an absolute address, which has to be known at the store event."""
         part = Part(number, "read", self.now, unit, text, address, begun=self.now)
@@ -101,10 +103,10 @@ class Clock:
         self.pending.append(part)
         return part
 
-    def step(self, part):
+    def step(self, part: Part) -> None:
         """A reservation makes its next event."""
         self.advance(part.ready)
-        if part.event == "accept":
+        if part.event == "accept" and part.address is not None:
             self.banks[part.address % BANKS] = self.now + self.times["bank"]  # E13
         event, cycles = after(self.times, part, part.event)
         if event:
@@ -112,33 +114,31 @@ class Clock:
         else:
             self.end(part)
 
-    def end(self, part):
-        """A reservation has no further effect."""
+    def end(self, part: Part) -> None:
         part.end(self.now)
         self.pending.remove(part)
 
-    def free(self, bank):
-        """A bank is freed."""
+    def free(self, bank: int) -> None:
         self.advance(self.banks.pop(bank))
 
-    def exchange(self):
+    def exchange(self) -> None:
         """Registers and package are exchanged, once the last issue is over."""
         self.advance(self.issuing.ready)
         self.issuing.then("issue", self.now, self.times["exchange"])
 
-    def close(self):
+    def close(self) -> int:
         """The end of the schedule: the cycle at which the last event has happened and the last issue is over."""
         self.advance(self.issuing.ready)
         self.issuing.end(self.now)
         return self.now
 
 
-def channel_of(text):
+def channel_of(text: str) -> int:
     """The channel of an instruction that loads, otherwise 0."""
     return int(text[2]) if text.startswith("SA") and text[2] in "12345" else 0
 
 
-def is_taken(replays, before, after):
+def is_taken(replays: Replays, before: str, after: str) -> bool:
     """Whether a branch leads elsewhere than to the next instruction, by the logs without it and with it."""
     (p, parcel), reached = ([replays.number(log, 0, field) for field in (1, 3)] for log in (before, after))
     parcel += 2
@@ -149,11 +149,11 @@ def is_taken(replays, before, after):
 class Feed:
     """Gives a clock the events of a session that was followed."""
 
-    def __init__(self, following, clock):
-        self.following, self.clock, self.parts = following, clock, {}
+    def __init__(self, following: Following, clock: Clock) -> None:
+        self.following, self.clock, self.parts = following, clock, dict[int, Part]()
         self.rows = {n: row for row, n in following.marks}
 
-    def event(self, n):
+    def event(self, n: int) -> None:
         """Makes the event n, unless it was refused."""
         kind, *fields = self.following.session.events[n].split(" ")
         if kind in ENDS:
@@ -169,7 +169,7 @@ class Feed:
         elif self.rows[n]:
             self.clock.step(self.parts[self.rows[n]])
 
-    def issue(self, row):
+    def issue(self, row: int) -> None:
         """An issue, with its reservation if it has one."""
         it = self.following.rows[row]
         self.clock.issue(it.text if row else "")
@@ -178,10 +178,10 @@ class Feed:
             self.parts[row] = self.clock.reserve(row, it.unit, it.text, taken, it.address)
 
 
-def clocked(following, times):
+def clocked(following: Following, times: Times) -> list[int]:
     """The minor cycle of each event of a session that was followed to its end."""
     clock = Clock(times)
-    feed, cycles = Feed(following, clock), []
+    feed, cycles = Feed(following, clock), list[int]()
     for n in range(following.columns):
         feed.event(n)
         cycles.append(clock.now)

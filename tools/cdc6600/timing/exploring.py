@@ -8,16 +8,19 @@ which states they lead; confirming.py has the program confirm it.
 
 import time
 from dataclasses import dataclass, field
+from typing import Iterator
 
 from cdc6600.asking.machine import Machine
 from cdc6600.asking.states import RUNNING, State
 from cdc6600.comparing.running import Progress
 from cdc6600.drawing.following import Fault, Replays, Reservation, Session
 from cdc6600.limits import BANKS
+from cdc6600.shared.program import Program
 
 from .clock import after, is_taken
 from .fronts import Front, Moment
 from .requests import START
+from .times import Times
 
 # The parts that tell a state from others with as many instructions issued.
 TELLING = ("units", "hopper", "channels", "banks", "request")
@@ -38,45 +41,45 @@ class Node:
     state: State
     issued: int = 0
     orders: int = 0
-    before: "Node" = None
+    before: "Node | None" = None
     event: str = ""
-    edges: dict = field(default_factory=dict)
-    refusals: dict = field(default_factory=dict)
-    earliest: Front = None
-    latest: Front = None
-    machine: Machine = None
+    edges: dict[str, "Node"] = field(default_factory=dict)
+    refusals: dict[str, str] = field(default_factory=dict)
+    earliest: Front = field(default_factory=lambda: Front(False))
+    latest: Front = field(default_factory=lambda: Front(True))
+    machine: Machine | None = None
 
     @property
-    def events(self):
+    def events(self) -> list[str]:
         """The events of the first order that leads to it."""
-        found, node = [], self
+        found, node = list[str](), self
         while node.before:
             found.append(node.event)
             node = node.before
         return found[::-1]
 
     @property
-    def key(self):
+    def key(self) -> tuple[object, ...]:
         """What tells it from other states."""
         state = self.state
         return self.issued, state.halt, state.fault, *(state.printed[part] for part in TELLING)
 
 
-class Program:
+class DeckProgram:
     """The instructions of a deck in their order. `rows` has the reservations that they make."""
 
-    def __init__(self, program, session, times, budget):
+    def __init__(self, program: Program, session: Session, times: Times, budget: int) -> None:
         self.times, self.budget = times, budget
         self.session = Session(session.file, "\n".join([*session.deck, "end", ""]))
         self.replays = Replays(program, self.session, session.file)
-        self.start = next(f"{int(START.fullmatch(line)[1], 8):o}" for line in session.deck if START.fullmatch(line))
-        self.rows = [None]
+        self.start = next(f"{int(it[1], 8):o}" for it in map(START.fullmatch, session.deck) if it)
+        self.rows = [Reservation("", "", "", "")]
 
-    def log(self, issued):
+    def log(self, issued: int) -> str:
         """The log after the exchange and so many instructions."""
         return f"E{self.start}" + (f" I{issued}" if issued else "")
 
-    def add(self, number, unit, text, issued):
+    def add(self, number: int, unit: str, text: str, issued: int) -> None:
         """Adds the reservation of this number, made by the instruction that is issued after so many others, if it isn't
         known."""
         if number == len(self.rows):
@@ -88,15 +91,14 @@ class Program:
 class Exploration:
     """All states and events of a program. `layers` has the states, and `ends` those without a further event."""
 
-    def __init__(self, program, session, times, budget, most):
+    def __init__(self, program: Program, session: Session, times: Times, budget: int, most: int) -> None:
         """Raises Fault where there are more states than `most`."""
-        self.program, self.most, self.times = Program(program, session, times, budget), most, times
-        self.machine, self.spare = self.program.session.machine(), []
+        self.program, self.most, self.times = DeckProgram(program, session, times, budget), most, times
+        self.machine, self.spare = self.program.session.machine(), list[Machine]()
         root = Node(0, 0, self.machine.state, orders=1)
-        root.earliest, root.latest = Front(False), Front(True)
         for front in (root.earliest, root.latest):
             front.add(Moment(0, {"issue": 0}))
-        self.layers, self.ends, self.count = [[root]], [], 1
+        self.layers, self.ends, self.count = [[root]], list[Node](), 1
         begun, progress = time.monotonic(), Progress()
         try:
             while self.layers[-1]:
@@ -108,23 +110,21 @@ class Exploration:
         self.layers.pop()
 
     @property
-    def nodes(self):
-        """All states."""
+    def nodes(self) -> list[Node]:
         return [node for layer in self.layers for node in layer]
 
     @property
-    def banks(self):
+    def banks(self) -> list[int]:
         """The banks to which the program refers."""
         return sorted({it.address % BANKS for it in self.program.rows[1:] if it.address is not None})  # E13
 
     @property
-    def orders(self):
-        """How many orders of events there are."""
+    def orders(self) -> int:
         return sum(node.orders for node in self.ends)
 
-    def next_layer(self, layer):
+    def next_layer(self, layer: list[Node]) -> list[Node]:
         """The states after one event more."""
-        found = {}
+        found: dict[tuple[object, ...], Node] = {}
         for node in layer:
             for event in self.accepted(node):
                 child = self.made(node, event)
@@ -136,12 +136,12 @@ class Exploration:
                 self.ends.append(node)
         return list(found.values())
 
-    def add(self, found, node):
+    def add(self, found: dict[tuple[object, ...], Node], node: Node) -> Node:
         """Adds a state that wasn't found before."""
         if self.count == self.most:
             many = f"it has more than {self.most} states"
             raise Fault(self.program.session.file, f"{many}; {FEWER}, --states N allows more")
-        node.number, node.earliest, node.latest = self.count, Front(False), Front(True)
+        node.number = self.count
         self.count += 1
         found[node.key] = node
         if len(found) * self.program.session.core <= MOST_WORDS:
@@ -151,7 +151,7 @@ class Exploration:
 
     # ---- the events ----
 
-    def machine_at(self, node):
+    def machine_at(self, node: Node) -> Machine:
         """The machine in the state of a node."""
         if node.machine:
             self.spare.append(self.machine)
@@ -160,7 +160,7 @@ class Exploration:
             self.machine.restart(node.events, node.state)
         return self.machine
 
-    def accepted(self, node):
+    def accepted(self, node: Node) -> list[str]:
         """The events that parts have to do in a state, and that are accepted. The refusals of the others are kept."""
         machine, found = self.machine_at(node), []
         for event in self.candidates(node):
@@ -172,7 +172,7 @@ class Exploration:
                 found.append(event)
         return found
 
-    def candidates(self, node):
+    def candidates(self, node: Node) -> Iterator[str]:
         """The events that parts have to do."""
         state = node.state
         if state.halt != RUNNING and not node.issued:
@@ -184,7 +184,7 @@ class Exploration:
         yield from (f"return {channel}" for channel, row in state.channels.items() if row in state.loaded)
         yield from (f"bank {bank}" for bank in state.banks)
 
-    def made(self, node, event):
+    def made(self, node: Node, event: str) -> Node:
         """The node to which an event leads."""
         machine = self.machine_at(node)
         answer, row = machine.make(event).split(" "), node.state.about(event)
@@ -197,13 +197,13 @@ class Exploration:
 
     # ---- the cycles ----
 
-    def spread(self, node, event, child):
+    def spread(self, node: Node, event: str, child: Node) -> None:
         """Takes the moments of a state on by an event."""
         for mine, theirs in ((node.earliest, child.earliest), (node.latest, child.latest)):
             for moment in mine.moments:
                 theirs.add(self.later(moment, node.state, event, child.state))
 
-    def later(self, moment, before, event, state):
+    def later(self, moment: Moment, before: State, event: str, state: State) -> Moment:
         """The moment after an event that leads from a state to another one."""
         ready = dict(moment.ready)
         kind, row = event.split(" ")[0], before.about(event)
@@ -220,11 +220,11 @@ class Exploration:
             if following:
                 ready[row] = now + cycles
             if kind == "accept":
-                ready[f"bank {it.address % BANKS}"] = now + self.times["bank"]  # E13
+                ready[f"bank {before.addresses[row] % BANKS}"] = now + self.times["bank"]  # E13
         end = moment.end if kind == "bank" else max(moment.end, now, ready["issue"] if key == "issue" else 0)
         return Moment(now, ready, end, moment, event)
 
-    def extremes(self):
+    def extremes(self) -> tuple[Moment, Moment]:
         """The moments at which a shortest and a longest order end. Freed banks don't count."""
         earliest = [moment for node in self.ends for moment in node.earliest.moments]
         latest = [moment for node in self.ends for moment in node.latest.moments]

@@ -13,25 +13,24 @@ class Moment:
     led to it. At `end` the last event but for freed banks has happened, and the last issue is over."""
 
     now: int
-    ready: dict
+    ready: dict[int | str, int]
     end: int = 0
-    before: "Moment" = None
+    before: "Moment | None" = None
     event: str = ""
 
-    def __post_init__(self):
+    def __post_init__(self) -> None:
         # A part that has been ready for a while is as one that is ready now.
         self.ready = {key: max(cycle, self.now) for key, cycle in self.ready.items()}
 
     @property
-    def events(self):
-        """The events of the order."""
-        found, moment = [], self
+    def events(self) -> list[str]:
+        found, moment = list[str](), self
         while moment.before:
             found.append(moment.event)
             moment = moment.before
         return found[::-1]
 
-    def is_before(self, other):
+    def is_before(self, other: "Moment") -> bool:
         """Whether nothing of it is later than in another moment of the same state."""
         is_before = self.now <= other.now and self.end <= other.end
         return is_before and all(cycle <= other.ready[key] for key, cycle in self.ready.items())
@@ -40,14 +39,14 @@ class Moment:
 class Front:
     """The moments of a state that may still lead to the extreme one."""
 
-    def __init__(self, is_latest):
-        self.is_latest, self.moments = is_latest, []
+    def __init__(self, is_latest: bool) -> None:
+        self.is_latest, self.moments = is_latest, list[Moment]()
 
-    def beats(self, one, other):
+    def beats(self, one: Moment, other: Moment) -> bool:
         """Whether one moment makes the other one needless."""
         return other.is_before(one) if self.is_latest else one.is_before(other)
 
-    def add(self, moment):
+    def add(self, moment: Moment) -> None:
         """Adds a moment, unless it is needless, and drops those that it makes needless."""
         if not any(self.beats(it, moment) for it in self.moments):
             self.moments = [it for it in self.moments if not self.beats(moment, it)] + [moment]

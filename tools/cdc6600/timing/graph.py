@@ -6,18 +6,22 @@ import json
 import xml.etree.ElementTree as ET
 from pathlib import Path
 from string import Template
+from typing import Iterable, Mapping
 
 from cdc6600.drawing.forms import SVG
 from cdc6600.drawing.page import read
 from cdc6600.drawing.values import REGISTERS
 from cdc6600.shared.telling import plural
 
+from .exploring import Exploration, Node
+from .fronts import Moment
+
 FOLDER = Path(__file__).resolve().parent
 # The columns and rows of the graph in pixels, and up to how many states it is drawn.
 COLUMN, ROW, EDGE, RADIUS, MOST = 34, 16, 14, 5, 2000
 
 
-def tag(name):
+def tag(name: str) -> str:
     """A name of SVG."""
     return f"{{{SVG}}}{name}"
 
@@ -25,7 +29,7 @@ def tag(name):
 class Graph:
     """The page of an exploration. `report` has its lines as text."""
 
-    def __init__(self, exploration, title, report):
+    def __init__(self, exploration: Exploration, title: str, report: Iterable[str]) -> None:
         self.exploration, self.title, self.report = exploration, title, report
         self.rows = max(map(len, exploration.layers))
         self.height = ROW * (self.rows - 1) + 2 * EDGE
@@ -33,7 +37,7 @@ class Graph:
         shortest, longest = exploration.extremes()
         self.paths = {"longest": self.on_path(longest), "shortest": self.on_path(shortest)}
 
-    def on_path(self, moment):
+    def on_path(self, moment: Moment) -> list[int]:
         """The states on the way to a moment, by number."""
         node, found = self.exploration.layers[0][0], []
         for event in moment.events:
@@ -41,7 +45,7 @@ class Graph:
             node = node.edges[event]
         return [*found, node.number]
 
-    def places(self):
+    def places(self) -> dict[int, tuple[int, float]]:
         """The position of each state in the picture, by number: its layer, and the middle of its parents' rows."""
         found = {}
         for layer in self.exploration.layers:
@@ -50,7 +54,7 @@ class Graph:
                 found[node.number] = EDGE + COLUMN * node.layer, begin + ROW * row
         return found
 
-    def picture(self):
+    def picture(self) -> str:
         """The graph: a dot for each state, a line for each event, and lines for the two orders."""
         ET.register_namespace("", SVG)
         size = {"width": str(self.width), "height": str(self.height), "viewBox": f"0 0 {self.width} {self.height}"}
@@ -71,7 +75,7 @@ class Graph:
             ET.SubElement(root, tag("circle"), at)
         return ET.tostring(root, encoding="unicode")
 
-    def data(self):
+    def data(self) -> list[dict[str, object]]:
         """What the script reads of each state, by number."""
         return [{
             "layer": node.layer, "orders": str(node.orders),
@@ -80,7 +84,7 @@ class Graph:
             "refused": list(node.refusals.items()),
         } for node in self.exploration.nodes]
 
-    def holdings(self, node):
+    def holdings(self, node: Node) -> list[str]:
         """What the parts have in a state, a sentence for each."""
         state, rows = node.state, self.exploration.program.rows
         named = {row: f"{it.text} ({row})" for row, it in enumerate(rows) if row}
@@ -94,19 +98,19 @@ class Graph:
         return [f"{issued}; {halt}", *found]
 
     @staticmethod
-    def values(values):
+    def values(values: Mapping[str, str]) -> str:
         """The registers of a state that aren't zero, with their octal values."""
         found = [f"{name} {values[name].lstrip('0')}" for name in REGISTERS if int(values[name], 8)]
         return f"registers, in octal: {', '.join([*found, 'all others 0'])}"
 
-    def layers(self):
+    def layers(self) -> str:
         """The rows of the table of layers."""
         rows = enumerate(self.exploration.layers)
         return "".join(
             f"<tr><th scope=\"row\">{number}</th><td>{len(layer)}</td><td>{sum(len(node.edges) for node in layer)}</td>"
             f"</tr>\n" for number, layer in rows)
 
-    def text(self):
+    def text(self) -> str:
         """The page. The graph of very many states isn't drawn."""
         is_drawn = self.exploration.count <= MOST
         told = f"The graph of more than {MOST} states isn't drawn."

@@ -1,25 +1,30 @@
 """What is printed of a schedule and of an exploration."""
 
 import sys
+from typing import Mapping
 
 from cdc6600.drawing.following import Fault
 from cdc6600.shared.telling import plural
 
+from .clock import Clock
+from .confirming import Confirmed
+from .exploring import Exploration
+from .scheduling import Schedule
 from .totals import Totals
 from .waits import CAUSES
 
 WIDTH = 34
 
 
-def rows(work, waits):
+def rows(work: int, waits: Mapping[str, int]) -> list[str]:
     """A line for the work and each cause of waits, the causes in the order of the refusals' numbers."""
     found = [("work", work)] + [(f"waits: {CAUSES[code]}", waits[code]) for code in CAUSES if waits[code]]
     return [f"  {name:<{WIDTH}}{cycles:>9}" for name, cycles in found]
 
 
-def summary(schedule, clock):
+def summary(schedule: Schedule, clock: Clock) -> str:
     """The summary of a schedule that was made, with the clock of its session."""
-    it, of_parts = Totals(clock, schedule.log.text), sum(part.ended - part.begun for part in clock.parts)
+    it, of_parts = Totals(clock, schedule.log.text), sum(it.ended - it.begun for it in clock.parts if it.ended)
     lines = [
         f"policy {schedule.policy}: {it.issued} instructions in {it.cycles} minor cycles, "
         f"{it.rate} instructions a cycle",
@@ -31,7 +36,7 @@ def summary(schedule, clock):
     return "".join(f"{line}\n" for line in lines)
 
 
-def put(text):
+def put(text: str) -> None:
     """Prints a text as it is.
 
     Raises Fault where standard output is closed."""
@@ -40,12 +45,11 @@ def put(text):
     sys.stdout.write(text)
 
 
-def counted(number, one, several):
-    """A number with the word for what is counted."""
+def counted(number: int, one: str, several: str) -> str:
     return f"{number} {plural(range(number), one, several)}"
 
 
-def report(exploration, confirmed):
+def report(exploration: Exploration, confirmed: Confirmed) -> list[str]:
     """The lines of an exploration that the machine has confirmed."""
     events = sum(len(node.edges) for node in exploration.nodes)
     shortest, longest = exploration.extremes()

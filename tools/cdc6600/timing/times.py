@@ -21,18 +21,18 @@ BRANCH = "branch"
 class Times:
     """The minor cycles of each part, by the names of a file of times."""
 
-    def __init__(self, cycles):
+    def __init__(self, cycles: dict[str, int]) -> None:
         self.cycles = cycles
 
-    def __getitem__(self, name):
+    def __getitem__(self, name: str) -> int:
         return self.cycles[name]
 
-    def issue(self, text):
+    def issue(self, text: str) -> int:
         """The cycles between the issue of an instruction and the next one. A text that is none halts the machine."""
         found = instruction(text)
         return self.cycles["issue30" if found and found.row.is_long else "issue15"]
 
-    def unit(self, unit, is_taken):
+    def unit(self, unit: str, is_taken: bool) -> int:
         """The cycles of a unit from its read event to its finish event."""
         if unit == BRANCH:
             return self.cycles["taken" if is_taken else "untaken"]
@@ -43,7 +43,7 @@ class Times:
 NO_TIMES = Times(dict.fromkeys(LEAST, 0))
 
 
-def shown(word):
+def shown(word: str) -> str:
     """A word of a file as a fault shows it."""
     return f"'{printable(word)[:32]}'"
 
@@ -51,14 +51,14 @@ def shown(word):
 class Reader:
     """Reads the lines of a file of times."""
 
-    def __init__(self, file):
-        self.file, self.found = file, {}
+    def __init__(self, file: str | Path) -> None:
+        self.file, self.found = file, dict[str, int]()
 
-    def fault(self, number, column, what):
+    def fault(self, number: int, column: int, what: str) -> Fault:
         """A fault at a column of a line, both counted from 1."""
         return Fault(self.file, f"line {number}, column {column}: {what}")
 
-    def read(self, number, line):
+    def read(self, number: int, line: str) -> None:
         """Reads a line.
 
         Raises Fault where it is neither empty nor a name and a number."""
@@ -79,7 +79,7 @@ class Reader:
         self.found[name] = int(word)
 
 
-def read_times(file=None):
+def read_times(file: str | Path | None = None) -> Times:
     """The times of a file, or of the one that belongs to these tools.
 
     Raises Fault where it can't be read, a line is none, or a name is missing."""

@@ -11,8 +11,10 @@ itself, since the folder of its proof or the form of it is another.
 """
 
 import re
+from pathlib import Path
+from typing import Container, Iterable, Mapping
 
-from cdc6600.crates.source import items_of
+from cdc6600.crates.source import Item, Sources, items_of
 
 from .copies import proof_folders
 
@@ -23,10 +25,11 @@ HOLES = re.compile(r"^(fn (\S+)): (?:no holes|depends on a hole in .*)$", re.MUL
 CALLED = re.compile(r";? it calls (`[^;\n]*), which (?:is|are) not proved")
 
 
-def assumed(source, folder, wrong, texts):
+def assumed(source: Sources, folder: Path, wrong: Iterable[Item], texts: Mapping[str, str]) -> dict[str, str | None]:
     """The texts of a crate in which the contracts of all functions but these are assumed, where it has these texts in
     place of its own. Where a path has no text, its file is left out."""
-    kept, proofs, given = {item.key() for item in wrong}, {}, {}
+    kept, proofs = {item.key() for item in wrong}, dict[str, str | None]()
+    given: dict[str, set[tuple[str, str, str]]] = {}
     for item in source.functions():
         folders = [] if is_special(item) or item.key() in kept else proof_folders(item, source, folder)
         if not folders or folders[0].with_name(f"+{item.name}").exists():
@@ -38,12 +41,11 @@ def assumed(source, folder, wrong, texts):
         proof = PROOF.format(folder.name, steps, item.name, item.name)
         proofs[str((own / "Proof.antt").relative_to(folder))] = proof
         given.setdefault(item.path, set()).add(item.key())
-    texts = proofs | texts
-    return texts | {path: without_bodies(path, texts.get(path, source.texts[path]), keys)
-                    for path, keys in given.items()}
+    changed = {path: without_bodies(path, texts.get(path, source.texts[path]), keys) for path, keys in given.items()}
+    return {**proofs, **texts, **changed}
 
 
-def without_bodies(path, text, keys):
+def without_bodies(path: str, text: str, keys: Container[tuple[str, str, str]]) -> str:
     """The text of a source in which the functions of these keys do nothing."""
     lines = text.split("\n")
     for item in reversed(items_of(path, text)):
@@ -52,16 +54,16 @@ def without_bodies(path, text, keys):
     return "\n".join(lines)
 
 
-def is_special(item):
+def is_special(item: Item) -> bool:
     """Whether a function is a trait's, or of a type at some arguments alone."""
     return bool(item.trait) or item.within.is_trait or item.within.is_instance
 
 
-def as_proved(said):
+def as_proved(said: str) -> str:
     """What a check says where contracts are assumed, in the words of one in which they are proved."""
     assumed_ones = {found[2] for found in HOLES.finditer(said)}
 
-    def calls(found):
+    def calls(found: re.Match[str]) -> str:
         named = set(re.findall(r"`([^`]+)`", found[1]))
         return "" if named <= assumed_ones else found[0]
 

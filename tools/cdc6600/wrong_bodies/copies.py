@@ -12,9 +12,11 @@ edit of more than one function, or of a constant. groups.py is for those.
 import re
 from dataclasses import dataclass, replace
 from pathlib import Path
+from typing import Collection, Iterator, Sequence
 
-from cdc6600.crates.source import Item, module_of
+from cdc6600.crates.source import Item, Sources, module_of
 
+from .edits import Body
 from .opening import attributes_of, opened
 from .verdicts import is_of
 from .written import without
@@ -31,18 +33,18 @@ class Copy:
     """A wrong body beside the right one: its edit's name, the copy as an item, its lines, and its proof files'
     texts."""
 
-    body: object
+    body: Body
     item: Item
     suffix: str  # the end of the copy's name
-    lines: tuple
-    proofs: tuple  # for each file its path in the crate, the path of the file that it is a copy of, and its text
+    lines: tuple[str, ...]
+    proofs: tuple[tuple[str, str, str], ...]  # for each file its path in the crate, that of its original, and its text
 
     @property
-    def touched(self):
+    def touched(self) -> list[Item]:
         return [self.item]
 
 
-def proof_folder(item, source, folder, part=()):
+def proof_folder(item: Item, source: Sources, folder: Path, part: tuple[str, ...] = ()) -> Path | None:
     """The folder of a function's proof, whether there is one or not, and None if that isn't clear. With the part `fn`,
     that of the proofs of its closures."""
     if not item.owner:
@@ -58,13 +60,13 @@ def proof_folder(item, source, folder, part=()):
     return found[0] if found else place / item.owner / item.name
 
 
-def proof_folders(item, source, folder):
+def proof_folders(item: Item, source: Sources, folder: Path) -> list[Path]:
     """The folders of a function's proof and of those of its closures, or none if that isn't clear."""
-    found = [proof_folder(item, source, folder, part) for part in ((), ("fn",))]
-    return [] if None in found else found
+    own, closures = proof_folder(item, source, folder), proof_folder(item, source, folder, ("fn",))
+    return [own, closures] if own and closures else []
 
 
-def written_folders(item, folder):
+def written_folders(item: Item, folder: Path) -> Iterator[Path]:
     """The folders that may have written proofs of a function, also of one that can't have a copy, and of its
     closures."""
     for file in sorted(Path(folder, "proofs").rglob("*")):
@@ -73,7 +75,7 @@ def written_folders(item, folder):
             yield file
 
 
-def can_stand_beside(body, source, folder):
+def can_stand_beside(body: Body, source: Sources, folder: Path) -> bool:
     """Whether a body can stand beside the right one."""
     if body.is_alone or len(body.touched) != 1 or len(body.regions) != 1:
         return False
@@ -89,7 +91,8 @@ def can_stand_beside(body, source, folder):
     return is_inside and not is_method_of_trait and files <= FILES
 
 
-def copy_of(body, suffix, source, folder, paths=(), left_out=()):
+def copy_of(body: Body, suffix: str, source: Sources, folder: Path, paths: Sequence[str] = (),
+            left_out: Collection[tuple[str, str]] = ()) -> Copy:
     """The copy of a body, whose name ends in this suffix, with the definitions of these paths opened, and without these
     answers of the written proof, each named by its file and its goal."""
     item, (path, start, end, wrong) = body.touched[0], body.regions[0]
@@ -102,7 +105,8 @@ def copy_of(body, suffix, source, folder, paths=(), left_out=()):
     return Copy(body, replace(item, name=name), suffix, ("", *attributes, *whole), tuple(proofs))
 
 
-def copied_proofs(item, suffix, folders, folder, left_out):
+def copied_proofs(item: Item, suffix: str, folders: Sequence[Path], folder: Path,
+                  left_out: Collection[tuple[str, str]]) -> Iterator[tuple[str, str, str]]:
     """The copies of a function's proof files. One file may cite what another has, so each has every new name."""
     steps = [".".join(at.relative_to(folder / "proofs").parts) for at in folders]
     for at in folders:
@@ -116,7 +120,7 @@ def copied_proofs(item, suffix, folders, folder, left_out):
             yield str(copied_at.relative_to(folder)), path, text
 
 
-def copied(bodies, source, folder, pace=1):
+def copied(bodies: Sequence[Body], source: Sources, folder: Path, pace: float = 1) -> list[list[Copy]]:
     """The copies, in lists for one check each, that are about as long. `pace` is how many seconds a function of the
     crate takes to prove."""
     copies = [copy_of(body, f"wrong_{number}", source, folder) for number, body in enumerate(bodies)]
@@ -124,7 +128,7 @@ def copied(bodies, source, folder, pace=1):
     return [copies[at::checks] for at in range(checks)]
 
 
-def beside(copies, source):
+def beside(copies: Sequence[Copy], source: Sources) -> dict[str, str]:
     """The texts of the sources and of the proof files that have these copies."""
     texts = {path: text for copy in copies for path, _, text in copy.proofs}
     for copy in sorted(copies, key=lambda it: it.item.last, reverse=True):

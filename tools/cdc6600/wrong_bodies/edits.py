@@ -2,14 +2,24 @@
 
 from dataclasses import dataclass, field
 from pathlib import Path
+from typing import Iterable, NamedTuple
 
 from cdc6600.crates.crate import EDITS
-from cdc6600.crates.source import items_of
+from cdc6600.crates.source import Item, Sources, items_of
 from cdc6600.crates.table import Unreadable
 
 EQUIVALENT, UNSURE, LET_THROUGH = "equivalent", "unsure", "let through"
 # How the lines begin that have a reason.
 NOTES = (f"{EQUIVALENT}: ", f"{UNSURE}: ", f"{LET_THROUGH}: ")
+
+
+class Region(NamedTuple):
+    """What an edit changes in a file: the lines from one to another of the right text, and the new ones."""
+
+    path: str
+    start: int
+    end: int
+    lines: list[str]
 
 
 @dataclass
@@ -19,24 +29,24 @@ class Body:
     name: str
     folder: str
     text: str
-    regions: list = field(default_factory=list)  # (path, from, to, new text), by places in the right text
+    regions: list[Region] = field(default_factory=list)
     # The functions that it changes, or that read a constant that it changes.
-    touched: list = field(default_factory=list)
+    touched: list[Item] = field(default_factory=list)
     is_alone: bool = False
-    notes: dict = field(default_factory=dict)  # its reasons, by the words of NOTES
+    notes: dict[str, str] = field(default_factory=dict)  # its reasons, by the words of NOTES
 
 
-def notes_of(text):
+def notes_of(text: str) -> dict[str, str]:
     """The reasons that an edit gives, by their words: why its body does what the right one does, why nobody can tell
     whether the contract refuses it, or why the contract lets it through."""
     pairs = (line.split(": ", 1) for line in text.split("\n") if line.startswith(NOTES))
     return {word: reason.strip() for word, reason in pairs}
 
 
-def pairs_of(text, label):
+def pairs_of(text: str, label: str) -> list[tuple[str, str, str]]:
     """The pairs of an edit: the file, the old text and the new one."""
-    path = old = None
-    pairs = []
+    path, pairs = "", list[tuple[str, str, str]]()
+    old: str | None = None
     for line in text.split("\n"):
         if line.startswith(NOTES):
             continue
@@ -54,10 +64,10 @@ def pairs_of(text, label):
     return pairs
 
 
-def read_body(file, source):
+def read_body(file: Path, source: Sources) -> Body:
     """Reads an edit and applies it by itself, so that each of its texts is looked for as the one before left them."""
     label = f"{file.parent.parent.name}/{file.stem}"
-    body, texts = Body(file.stem, file.parent.name, file.read_text(encoding="utf-8")), {}
+    body, texts = Body(file.stem, file.parent.name, file.read_text(encoding="utf-8")), dict[str, str]()
     body.notes = notes_of(body.text)
     for path, old, new in pairs_of(body.text, label):
         if path not in source.texts:
@@ -74,37 +84,37 @@ def read_body(file, source):
     return body
 
 
-def touch(body, path, text, at, new, source):
+def touch(body: Body, path: str, text: str, at: int, new: str, source: Sources) -> bool:
     """Notes which functions a pair changes, and whether it concerns others. Says whether it leaves the contracts
     alone."""
     first = text[:at].count("\n")
     inside = next((item for item in items_of(path, text) if item.first <= first <= item.last), None)
-    is_function = inside is not None and inside.kind == "function"
+    function = inside if inside and inside.kind == "function" else None
     # A contract, a constant or a struct concerns others than one function, and so does a function that is added.
-    body.is_alone |= not is_function or "fn " in new or first < inside.body_start
-    if is_function:
-        same = [item.first for item in items_of(path, text) if item.key() == inside.key()]
-        found = [item for item in source.functions() if item.path == path and item.key() == inside.key()]
-        found = found[same.index(inside.first) :][:1] if len(found) == len(same) else found
+    body.is_alone |= not function or "fn " in new or first < function.body_start
+    if function:
+        same = [item.first for item in items_of(path, text) if item.key() == function.key()]
+        found = [item for item in source.functions() if item.path == path and item.key() == function.key()]
+        found = found[same.index(function.first) :][:1] if len(found) == len(same) else found
     else:
         found = [item for item in source.functions() if inside is not None and inside.name in item.names()]
     body.touched += [item for item in found if item not in body.touched]
-    return not is_function or first >= inside.body_start or "fn " in new
+    return not function or first >= function.body_start or "fn " in new
 
 
-def region_of(path, right, wrong):
+def region_of(path: str, right: str, wrong: str) -> Region:
     """The part of a text that an edit changes, from its first change to its last, in whole lines."""
     before, after = right.split("\n"), wrong.split("\n")
     start = next((n for n, (a, b) in enumerate(zip(before, after)) if a != b), min(len(before), len(after)))
     rest = min(len(before), len(after)) - start
     same = next((n for n in range(rest) if before[-1 - n] != after[-1 - n]), rest)
-    return path, start, len(before) - same, after[start : len(after) - same]
+    return Region(path, start, len(before) - same, after[start : len(after) - same])
 
 
-def merged(source, bodies):
+def merged(source: Sources, bodies: Iterable[Body]) -> dict[str, str]:
     """The texts that have every one of these bodies. Each region is in the places of the right text, and no two
     overlap."""
-    texts = {}
+    texts: dict[str, list[str]] = {}
     regions = sorted((region for body in bodies for region in body.regions), key=lambda it: it[:3], reverse=True)
     for path, start, end, lines in regions:
         whole = texts.setdefault(path, source.texts[path].split("\n"))
@@ -112,9 +122,9 @@ def merged(source, bodies):
     return {path: "\n".join(lines) for path, lines in texts.items()}
 
 
-def read_bodies(folder, source):
+def read_bodies(folder: Path, source: Sources) -> tuple[list[Body], list[str]]:
     """Every wrong body of a crate, from all of its folders, and a line for each edit that can't be read."""
-    bodies, faults, names = [], [], set()
+    bodies, faults, names = list[Body](), list[str](), set[str]()
     for file in (file for part in EDITS for file in sorted(Path(folder, part).glob("*.edit"))):
         if file.stem in names:
             faults.append(f"{Path(folder).name}/{file.stem}: two edits have this name")

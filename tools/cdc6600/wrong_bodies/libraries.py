@@ -10,8 +10,10 @@ import json
 import os
 import subprocess
 import sys
+from pathlib import Path
 
 from cdc6600.crates.kit import checker
+from cdc6600.crates.table import Table
 
 # The kit reckons a stamp anew for each way that leads to a crate: with many layers that takes a minute.
 RECKONING = """
@@ -27,7 +29,7 @@ print(json.dumps({crate.name: crate.stamp() for crate in rtlib.crates_below(os.g
 """
 
 
-def stamps(root):
+def stamps(root: Path) -> dict[str, str]:
     """The stamp of each crate as it stands, or none at all where the kit can't be asked so."""
     words = [sys.executable, "-B", "-c", RECKONING]
     environment = {**os.environ, "PYTHONPATH": str(checker().parent)}
@@ -35,13 +37,13 @@ def stamps(root):
         words, cwd=root, env=environment, stdin=subprocess.DEVNULL, capture_output=True, text=True, check=False
     )
     try:
-        found = json.loads(ran.stdout) if not ran.returncode else {}
+        found: dict[str, str] = json.loads(ran.stdout) if not ran.returncode else {}
     except ValueError:
         return {}
     return found if all(isinstance(it, str) for it in found.values()) else {}
 
 
-def left_by_rt_ci(table):
+def left_by_rt_ci(table: Table) -> dict[str, str]:
     """The stamp of each crate whose library `rt ci` left, where it left those of all that stand below too. That it
     ended well here, and that nothing was changed since, its caller has to know."""
     known = {name: stamp for name, stamp in stamps(table.root).items() if name in table.lines}
@@ -49,6 +51,6 @@ def left_by_rt_ci(table):
     return {name: stamp for name, stamp in found.items() if all(it in found for it in table.below(name))}
 
 
-def is_left(folder, name):
+def is_left(folder: Path, name: str) -> bool:
     """Whether a crate's library stands there without a stamp."""
     return (folder / "out/rlib" / f"{name}.rlib" / "format").is_file() and not (folder / "out/rlib/stamp").exists()

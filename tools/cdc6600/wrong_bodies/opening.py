@@ -15,8 +15,10 @@ import re
 from dataclasses import dataclass
 from functools import lru_cache
 from pathlib import Path
+from typing import Container, Iterable, Iterator
 
-from cdc6600.crates.source import DECLARES, Sources, first_above
+from cdc6600.crates.source import DECLARES, Item, Sources, first_above
+from cdc6600.crates.table import Table
 
 LIMIT = 40
 USE = re.compile(r"^\s*(?:pub )?(?:ghost )?use (Rattle(?:\.\w+)*)\.\{([^}]*)\}", re.MULTILINE)
@@ -38,12 +40,12 @@ class Definition:
     """A definition of specs/: whether it is closed, and the definitions that it names."""
 
     is_closed: bool
-    names: set
+    names: set[tuple[str, str]]
 
 
-def imported(text):
+def imported(text: str) -> dict[str, tuple[str, str]]:
     """What the `use` lines of a text bring in: for each word the module and the name that it has there."""
-    found = {}
+    found: dict[str, tuple[str, str]] = {}
     for module, words in USE.findall(text):
         for word in words.split(","):
             name, _, alias = word.strip().partition(" as ")
@@ -52,9 +54,9 @@ def imported(text):
 
 
 @lru_cache(None)
-def definitions(folder):
+def definitions(folder: Path) -> dict[tuple[str, str], Definition]:
     """The definitions of a crate's specs/, by their module and name."""
-    found = {}
+    found: dict[tuple[str, str], Definition] = {}
     for file in sorted(Path(folder, "specs").rglob("*.antt")):
         module = ".".join(["Rattle", folder.name, *file.relative_to(folder).with_suffix("").parts])
         text = re.sub(r"--[^\n]*", "", file.read_text(encoding="utf-8"))
@@ -66,7 +68,7 @@ def definitions(folder):
     return found
 
 
-def pieces(text):
+def pieces(text: str) -> Iterator[tuple[bool, str, str]]:
     """The signatures and equations of a file: whether each says `unfoldable`, its name, and its text."""
     for piece in re.split(r"\n(?=\S)", text):
         found = DECLARATION.match(piece)
@@ -75,16 +77,15 @@ def pieces(text):
 
 
 @lru_cache(None)
-def source_of(folder):
+def source_of(folder: Path) -> Sources:
     return Sources.read(folder)
 
 
-def head(item):
-    """A function's signature and contract."""
+def head(item: Item) -> str:
     return "\n".join(item.text.split("\n")[: item.body_start - item.first])
 
 
-def invariants(item, source):
+def invariants(item: Item, source: Sources) -> Iterator[tuple[str, str]]:
     """What the declaration of a method's type and its `Model` say of its values, by the file that says it."""
     for path, text in source.texts.items():
         for found in TYPE.finditer(text):
@@ -95,24 +96,24 @@ def invariants(item, source):
 class Opening:
     """Which closed definitions are opened for the functions of one crate."""
 
-    def __init__(self, table, crate):
+    def __init__(self, table: Table, crate: str) -> None:
         names = [crate, *(name for name in table.uses[crate] if name in table.lines)]
         self.folder, self.folders = table.folder(crate), [table.folder(name) for name in names]
 
-    def named(self, item, source, called):
+    def named(self, item: Item, source: Sources, called: Container[str]) -> list[tuple[str, str]]:
         """The definitions that the goals of a body may name at first: those of its contract come first."""
         texts = [(source, item.path, head(item)), *((source, *found) for found in invariants(item, source))]
         for other in map(source_of, self.folders):
             texts += [(other, it.path, head(it)) for it in other.functions() if it.name in called]
-        found = []
+        found: list[tuple[str, str]] = []
         for its, path, text in texts:
             known = imported(its.texts[path])
             found += [known[word] for word in WORD.findall(text) if word in known]
         return list(dict.fromkeys(found))
 
-    def of(self, item, source, called):
+    def of(self, item: Item, source: Sources, called: Container[str]) -> tuple[str, ...]:
         """The paths, as the attribute names them, of what is opened for a body that calls these names."""
-        known = {}
+        known: dict[tuple[str, str], Definition] = {}
         for folder in self.folders:
             known |= definitions(folder)
         found = self.named(item, source, called)
@@ -121,29 +122,28 @@ class Opening:
         closed = [name for name in found if name in known and known[name].is_closed and RUST.fullmatch(name[1])]
         return tuple(self.path(*name) for name in closed[:LIMIT])
 
-    def path(self, module, name):
+    def path(self, module: str, name: str) -> str:
         _, crate, *steps = module.split(".")
         return "::".join(["crate" if crate == self.folder.name else crate, *steps, name])
 
 
-def attributes_of(item, lines):
+def attributes_of(item: Item, lines: list[str]) -> list[str]:
     """The lines above a function that belong to it: its attributes and its comments."""
     return lines[first_above(lines, item.first) : item.first]
 
 
-def own_lists(lines):
+def own_lists(lines: Iterable[str]) -> dict[str, list[str]]:
     """The lemmas and the definitions that a function's attribute names by itself."""
-    lists = {"using": [], "unfolding": []}
+    lists: dict[str, list[str]] = {"using": [], "unfolding": []}
     for line in lines:
         for word, names in LIST.findall(line) if ATTRIBUTE.match(line) else []:
             lists[word] += names.split(", ")
     return lists
 
 
-def opened(above, paths, item):
+def opened(above: list[str], paths: Iterable[str], item: Item) -> list[str]:
     """The lines above a function, with these definitions opened beside those that it opens itself."""
     lists = own_lists(above)
     lists["unfolding"] += [path for path in paths if path not in lists["unfolding"]]
     words = ", ".join(["auto", *(f"{word}({', '.join(names)})" for word, names in lists.items() if names)])
-    indentation = re.match(r"\s*", item.text)[0]
-    return [line for line in above if not ATTRIBUTE.match(line)] + [f"{indentation}#[tactic({words})]"]
+    return [line for line in above if not ATTRIBUTE.match(line)] + [f"{item.indentation}#[tactic({words})]"]

@@ -18,30 +18,33 @@ A goal that the first check proves counts as proved, since a search among opened
 
 import re
 from dataclasses import dataclass, field, replace
+from pathlib import Path
+from typing import Collection, Container, Iterable, Sequence
 
-from cdc6600.crates.source import names_in
+from cdc6600.crates.source import Item, Sources, names_in
 
-from .copies import copy_of, written_folders
-from .opening import attributes_of, opened, own_lists
-from .verdicts import CANT_TELL, CONTRACT, NOT_REFUSED, REFUSED, Verdict, goal_in, named
+from .copies import Copy, copy_of, written_folders
+from .edits import Body, Region
+from .opening import Opening, attributes_of, opened, own_lists
+from .verdicts import CANT_TELL, CONTRACT, NOT_REFUSED, REFUSED, Goals, Outcome, Verdict, goal_in, named
 from .written import declared, without
 
 # What a file Invariants.antt states: it is part of the written proof.
 STATED = re.compile("invariant-|requires$|ensures$")
 
 
-def right(body, name, source):
+def right(body: Body, name: str, source: Sources) -> Body:
     """The right body in the place of a wrong one, as if it were an edit of this name."""
-    regions = [(path, start, end, source.texts[path].split("\n")[start:end]) for path, start, end, _ in body.regions]
+    regions = [it._replace(lines=source.texts[it.path].split("\n")[it.start : it.end]) for it in body.regions]
     return replace(body, name=name, regions=regions)
 
 
-def called(body, item):
+def called(body: Body, item: Item) -> set[str]:
     """The names of what a body calls."""
-    return item.names() | names_in("\n".join(line for region in body.regions for line in region[3]))
+    return item.names() | names_in("\n".join(line for region in body.regions for line in region.lines))
 
 
-def unfit_answers(goals):
+def unfit_answers(goals: Goals) -> set[tuple[str, str]]:
     """The answers that don't fit, by their file and their goal."""
     return {(path, name) for path, name, *_ in [*goals.rejected, *goals.gone] if path.endswith("/Answers.antt")}
 
@@ -52,19 +55,19 @@ class Again:
     are left out, and the answers of all goals of the contract, by their files; then all that is written for the
     contract."""
 
-    body: object
-    first: object  # the outcome of its first check
-    paths: list = field(default_factory=list)
-    left_out: list = field(default_factory=list)
-    answers: list = field(default_factory=list)
-    written: list = field(default_factory=list)
+    body: Body
+    first: Outcome  # the outcome of its first check
+    paths: list[list[str]] = field(default_factory=list)
+    left_out: list[set[tuple[str, str]]] = field(default_factory=list)
+    answers: list[set[tuple[str, str]]] = field(default_factory=list)
+    written: list[set[str]] = field(default_factory=list)
 
-    def is_another(self):
+    def is_another(self) -> bool:
         """Whether there is anything to be opened or left out."""
         return any(self.paths) or any(self.left_out) or any(self.written)
 
 
-def again(body, first, opening, source, folder):
+def again(body: Body, first: Outcome, opening: Opening, source: Sources, folder: Path) -> Again:
     """What is opened and left out for a body that a check refused."""
     found = Again(body, first)
     for item, goals in zip(body.touched, first.goals):
@@ -78,10 +81,10 @@ def again(body, first, opening, source, folder):
     return found
 
 
-def written_for(item, folder):
+def written_for(item: Item, folder: Path) -> tuple[set[tuple[str, str]], set[str]]:
     """The answers that are written for the contract of a function and of its closures, by their file and their name,
     and the goals for which something is written: an answer or an invariant."""
-    answers, written = set(), set()
+    answers, written = set[tuple[str, str]](), set[str]()
     for file in (file for at in written_folders(item, folder) for file in sorted(at.glob("*.antt"))):
         path = str(file.relative_to(folder))
         text = file.read_text(encoding="utf-8")
@@ -91,26 +94,27 @@ def written_for(item, folder):
     return answers, written
 
 
-def in_place(it, body, left_out, source, folder):
+def in_place(it: Again, body: Body, left_out: Sequence[set[tuple[str, str]]], source: Sources,
+             folder: Path) -> tuple[Body, dict[str, str]]:
     """A body with what is opened, to be tried in its place, and the texts of the proof files without these answers."""
-    regions, texts = list(body.regions), {}
+    regions, texts = list(body.regions), dict[str, str]()
     for item, paths, names in zip(body.touched, it.paths, left_out):
         above = attributes_of(item, source.texts[item.path].split("\n"))
         start = item.first - len(above)
-        if paths and not any(at[0] == item.path and at[1] < item.first and start < at[2] for at in regions):
-            regions.append((item.path, start, item.first, opened(above, paths, item)))
+        if paths and not any(at.path == item.path and at.start < item.first and start < at.end for at in regions):
+            regions.append(Region(item.path, start, item.first, opened(above, paths, item)))
         for path in {path for path, _ in names}:
             text = texts.get(path) or (folder / path).read_text(encoding="utf-8")
             texts[path] = without(text, {name for its, name in names if its == path})
     return replace(body, regions=regions), texts
 
 
-def clause_of(goal):
+def clause_of(goal: str) -> tuple[str, str]:
     """The clause of a goal, wherever in the function it is asked for."""
     return goal.split("-")[0], goal.partition("clause-")[2]
 
 
-def left_of(first, second):
+def left_of(first: Goals, second: Goals) -> list[str]:
     """The goals of the contract that neither of two checks proves."""
     goals, still = first.every(), second.every()
     if second.is_whole:
@@ -118,7 +122,7 @@ def left_of(first, second):
     return [goal for goal in goals if goal in still] or goals
 
 
-def is_refusal(goal, control, written):
+def is_refusal(goal: str, control: Goals | None, written: Collection[str]) -> bool:
     """Whether it says something of the contract that search doesn't prove this goal of a body. `control` is what search
     leaves of the right body."""
     if not written:
@@ -129,16 +133,16 @@ def is_refusal(goal, control, written):
     return goal not in left and (goal in written or clause_of(goal) not in map(clause_of, left))
 
 
-def is_of_loop(goal, written):
+def is_of_loop(goal: str, written: Container[str]) -> bool:
     """Whether a goal is that of a loop whose invariant is written."""
     return f"invariant-{goal.rpartition('-')[0]}" in written
 
 
-def settled(it, second, control):
+def settled(it: Again, second: Outcome, control: Outcome | None) -> Verdict:
     """The verdict on a body, by its first check, its second one, and that of the right body, if there was one."""
     if not second.goals:
         return Verdict(NOT_REFUSED, f"once more, {second.verdict.words}{opened_words(it)}")
-    unsure = []
+    unsure: list[tuple[str, Item]] = []
     for number, item in enumerate(it.body.touched):
         if not it.first.goals[number].contract():
             continue
@@ -157,7 +161,7 @@ def settled(it, second, control):
     return Verdict(NOT_REFUSED, words + opened_words(it))
 
 
-def opened_words(it):
+def opened_words(it: Again) -> str:
     """What was opened and left out, in words."""
     paths = sorted({path for paths in it.paths for path in paths})
     names = sorted({name for left_out in it.left_out for _, name in left_out})
@@ -166,7 +170,7 @@ def opened_words(it):
     return f" ({' and '.join([*opened_here, *without_them])})"
 
 
-def after_one(body, first, folder):
+def after_one(body: Body, first: Outcome, folder: Path) -> Verdict:
     """The verdict on a body that one check refused, if there is to be no other. Search proves each goal of the right
     body for which nothing is written, so one of these that it doesn't prove refuses the body. Of the others nobody can
     tell."""
@@ -181,15 +185,16 @@ def after_one(body, first, folder):
     return Verdict(CANT_TELL, f"{unsure}: one check says only that what is written for the right body doesn't fit")
 
 
-def original(left_out, suffix):
+def original(left_out: Iterable[tuple[str, str]], suffix: str) -> set[tuple[str, str]]:
     """The answers by the files of which a copy's are copies."""
     return {(path.replace(f"_{suffix}/", "/"), name) for path, name in left_out}
 
 
-def copies_again(them, suffixes, source, folder):
+def copies_again(them: Sequence[Again], suffixes: Sequence[str], source: Sources,
+                 folder: Path) -> tuple[list[Copy], dict[tuple[str, str, str], Copy]]:
     """The copies of the bodies that are tried once more, and the copy of the right body for each function that has
     written answers, by the function's key."""
-    copies, rights = [], {}
+    copies, rights = list[Copy](), dict[tuple[str, str, str], Copy]()
     for it, suffix in zip(them, suffixes):
         copies.append(copy_of(it.body, suffix, source, folder, it.paths[0], original(it.left_out[0], suffix)))
         key = it.body.touched[0].key()
@@ -199,10 +204,11 @@ def copies_again(them, suffixes, source, folder):
     return copies, rights
 
 
-def in_places_again(them, source, folder):
+def in_places_again(them: Sequence[Again], source: Sources,
+                    folder: Path) -> tuple[list[Body], dict[str, str], list[Body], dict[str, str]]:
     """The bodies that are tried once more in their places, the right bodies of those that have written answers, and the
     texts of the proof files for both."""
-    bodies, rights, texts, rights_texts = [], [], {}, {}
+    bodies, rights, texts, rights_texts = list[Body](), list[Body](), dict[str, str](), dict[str, str]()
     for it in them:
         body, proofs = in_place(it, it.body, it.left_out, source, folder)
         bodies.append(body)

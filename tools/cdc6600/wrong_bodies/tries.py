@@ -9,21 +9,23 @@ work.
 
 import tempfile
 import threading
-from concurrent.futures import FIRST_COMPLETED, ThreadPoolExecutor, wait
+from argparse import Namespace
+from concurrent.futures import FIRST_COMPLETED, Future, ThreadPoolExecutor, wait
 from dataclasses import dataclass, field, replace
 from functools import partial
 from pathlib import Path
+from typing import Callable, Container, Mapping, Sequence
 
 from cdc6600.building import host
 from cdc6600.building.forecast import measured
-from cdc6600.building.processes import stop_all
+from cdc6600.building.processes import Ran, stop_all
 from cdc6600.crates.crate import OF_THE_NIGHT
-from cdc6600.crates.source import Sources, module_of
-from cdc6600.crates.table import Unreadable
+from cdc6600.crates.source import Item, Sources, module_of
+from cdc6600.crates.table import Table, Unreadable
 
 from .assumed import assumed
-from .copies import beside, can_stand_beside, copied, written_folders
-from .edits import EQUIVALENT, LET_THROUGH, merged, read_bodies
+from .copies import Copy, beside, can_stand_beside, copied, written_folders
+from .edits import EQUIVALENT, LET_THROUGH, Body, merged, read_bodies
 from .groups import grouped
 from .kept import Kept, own_sum, sum_of
 from .libraries import left_by_rt_ci
@@ -34,6 +36,8 @@ from .workspaces import Workspace
 
 # The seconds that a function takes to prove in a crate of which it isn't known.
 PACE = 3
+# What is done at once: the building of a library, by its name, or the check of a group, by its crate and number.
+Task = tuple[str, str | int]
 
 
 @dataclass
@@ -41,18 +45,17 @@ class Group:
     """Wrong bodies that one check judges: in copies beside the right ones, or, where there are no copies, in their
     places."""
 
-    bodies: list
-    copies: list = field(default_factory=list)
-    proofs: dict = field(default_factory=dict)  # proof files with answers left out, for bodies in their places
+    bodies: list[Body]
+    copies: list[Copy] = field(default_factory=list)
+    proofs: dict[str, str] = field(default_factory=dict)  # files with answers left out, for bodies in their places
 
-    def texts(self, source):
+    def texts(self, source: Sources) -> dict[str, str]:
         return beside(self.copies, source) if self.copies else merged(source, self.bodies) | self.proofs
 
-    def functions(self):
-        """The functions that are wrong."""
+    def functions(self) -> list[Item]:
         return [item for it in self.copies or self.bodies for item in it.touched]
 
-    def outcomes(self, ran, crate, texts):
+    def outcomes(self, ran: Ran, crate: str, texts: Mapping[str, str]) -> dict[str, Outcome]:
         """What a check of these texts says of each body."""
         tried = self.copies or self.bodies
         found = [outcome_of(it.touched, ran.said, ran.status, crate, texts) for it in tried]
@@ -65,50 +68,51 @@ class Crate:
 
     name: str
     source: Sources
-    bodies: list
+    bodies: list[Body]
     kept: Kept
     opening: Opening
     own: str  # the sum of its own text
     left_out: int  # how many bodies of the night aren't tried
-    equivalent: list  # the bodies that do what the right ones do
-    let_through: list  # the bodies that the contract lets through, which a run has to refute
-    groups: list = field(default_factory=list)
-    verdicts: dict = field(default_factory=dict)  # by the name of the body
-    faults: list = field(default_factory=list)
+    equivalent: list[Body]  # the bodies that do what the right ones do
+    let_through: list[Body]  # the bodies that the contract lets through, which a run has to refute
+    groups: list[Group] = field(default_factory=list)
+    verdicts: dict[str, Verdict] = field(default_factory=dict)  # by the name of the body
+    faults: list[str] = field(default_factory=list)
     seconds: float = 0.0
     pace: float = 1.0  # the seconds that a function takes to prove, about
-    idle: list = field(default_factory=list)  # the workspaces in which no group is being checked
+    idle: list[Workspace] = field(default_factory=list)  # the workspaces in which no group is being checked
     lock: threading.Lock = field(default_factory=threading.Lock)
 
-    def tell(self, body, verdict):
+    def tell(self, body: Body, verdict: Verdict) -> None:
         with self.lock:
             self.verdicts[body.name] = verdict
             if verdict.kind != NOT_REFUSED:
                 self.kept.keep(body, verdict)
 
-    def settle(self):
+    def settle(self) -> None:
         """Notes that these bodies were tried of this text, if each was."""
         if len(self.verdicts) == len(self.bodies):
             self.kept.settle(self.own)
 
-    def spent(self, seconds):
+    def spent(self, seconds: float) -> None:
         with self.lock:
             self.seconds += seconds
 
 
-def read_crate(table, name, identity, given):
+def read_crate(table: Table, name: str, identity: str, given: Namespace) -> Crate:
     """Reads a crate's bodies, and takes the verdicts that were kept of the very same text. Those of the night are left
     out, unless all are asked for or the crate has changed since its bodies were last tried. `rt ci` tries those in
     `must-fail`, so they are of the night too."""
     source, own = Sources.read(table.folder(name)), own_sum(table, name)
     every, faults = read_bodies(table.folder(name), source)
-    apart = [[body for body in every if word in body.notes] for word in (EQUIVALENT, LET_THROUGH)]
-    found = [body for body in every if body not in apart[0] + apart[1]]
+    equivalent, let_through = ([body for body in every if word in body.notes] for word in (EQUIVALENT, LET_THROUGH))
+    found = [body for body in every if body not in equivalent + let_through]
     kept = Kept(name, sum_of(table, name, identity), given.anew, given.once)
     are_all = given.all or bool(given.crates) or kept.has_changed(own)
     bodies = [body for body in found if are_all or body.folder not in OF_THE_NIGHT]
     left_out = len(found) - len(bodies)
-    crate = Crate(name, source, bodies, kept, Opening(table, name), own, left_out, *apart, faults=faults)
+    opening = Opening(table, name)
+    crate = Crate(name, source, bodies, kept, opening, own, left_out, equivalent, let_through, faults=faults)
     for body in bodies:
         verdict = crate.kept.verdict(body)
         if verdict:
@@ -119,7 +123,7 @@ def read_crate(table, name, identity, given):
     return crate
 
 
-def groups_of(bodies, source, folder, pace=1):
+def groups_of(bodies: Sequence[Body], source: Sources, folder: Path, pace: float = 1) -> list[Group]:
     """The groups of bodies: copies of those that can stand beside the right ones, and the others in their places."""
     beside_right = [body for body in bodies if can_stand_beside(body, source, folder)]
     others = [body for body in bodies if body not in beside_right]
@@ -127,13 +131,13 @@ def groups_of(bodies, source, folder, pace=1):
     return [*copies, *map(Group, grouped(others, source))]
 
 
-def paths_of(group, source):
+def paths_of(group: Group, source: Sources) -> list[str]:
     """What `rt check --only` is to prove for a group, or nothing where a path isn't known and all has to be proved."""
     found = {path_of(item, source) for item in group.functions()}
-    return [] if None in found else sorted(found)
+    return [] if None in found else sorted(path for path in found if path)
 
 
-def path_of(item, source):
+def path_of(item: Item, source: Sources) -> str | None:
     """A function's path below its crate. A method has the module of its type. One of a trait's, and one of a type at
     some arguments alone, isn't found by the type's name: its path is the whole module."""
     if not item.owner:
@@ -148,27 +152,29 @@ def path_of(item, source):
 class Tries:
     """The run: the libraries that are built, and the tasks that are left, each with the names of those it waits for."""
 
-    def __init__(self, table, crates, room, at_once, is_after_rt_ci, is_once=False):
+    def __init__(self, table: Table, crates: Sequence[Crate], room: str, at_once: int, is_after_rt_ci: bool,
+                 is_once: bool = False) -> None:
         self.table, self.room, self.at_once, self.is_once = table, Path(room), at_once, is_once
-        self.libraries, self.broken, self.tasks, self.library_seconds = {}, {}, {}, 0.0
+        self.libraries, self.broken, self.library_seconds = dict[str, Workspace](), dict[str, str](), 0.0
+        self.tasks: dict[Task, tuple[list[Task], Callable[[], None]]] = {}
         tried = [crate for crate in crates if crate.groups]
         # The checks of crates with the dearest functions are the longest, and come first.
         self.sizes = {crate.name: crate.pace for crate in tried}
-        self.groups = {crate.name: {(crate.name, number) for number in range(len(crate.groups))} for crate in tried}
+        self.groups: dict[str, set[Task]] = {it.name: {(it.name, n) for n in range(len(it.groups))} for it in tried}
         needed = {name for crate in tried for name in table.below(crate.name)}
         self.left = left_by_rt_ci(table) if needed and is_after_rt_ci else {}
         for name in (name for name in table.lines if name in needed):
-            waits = [("library", it) for it in table.below(name)]
-            self.tasks["library", name] = (waits, lambda name=name: self.build(name))
+            self.tasks["library", name] = ([("library", it) for it in table.below(name)], partial(self.build, name))
         for crate in tried:
             self.plan(crate, crate.name in needed and crate.name not in self.left)
 
-    def plan(self, crate, is_built):
-        waits = [("library", it) for it in self.table.below(crate.name)] + [("library", crate.name)] * is_built
+    def plan(self, crate: Crate, is_built: bool) -> None:
+        below = [*self.table.below(crate.name), *[crate.name] * is_built]
+        waits: list[Task] = [("library", it) for it in below]
         for number, group in enumerate(crate.groups):
             self.tasks[crate.name, number] = (waits, partial(self.judge, crate, group))
 
-    def build(self, name):
+    def build(self, name: str) -> None:
         """Gets a library: the one that `rt ci` left, or one that is built over what the checkout's own checks kept of
         it."""
         lacking = next((it for it in self.table.below(name) if it in self.broken), None)
@@ -188,7 +194,7 @@ class Tries:
         except (Unreadable, OSError) as fault:
             self.broken[name] = str(fault)
 
-    def workspace_of(self, crate):
+    def workspace_of(self, crate: Crate) -> Workspace:
         """A workspace for a group's check: one that an earlier group has left, or a new one."""
         with crate.lock:
             if crate.idle:
@@ -196,7 +202,7 @@ class Tries:
         room = tempfile.mkdtemp(prefix=f"{crate.name}-", dir=self.room)
         return Workspace(self.table, room, crate.name, self.libraries)
 
-    def judge(self, crate, group):
+    def judge(self, crate: Crate, group: Group) -> None:
         """Checks a group and tells each body's verdict."""
         lacking = next((it for it in [*self.table.below(crate.name), crate.name] if it in self.broken), None)
         try:
@@ -210,7 +216,7 @@ class Tries:
             for body in group.bodies:
                 crate.tell(body, Verdict(NOT_REFUSED, f"it wasn't tried: {fault}"))
 
-    def judge_in(self, workspace, crate, group):
+    def judge_in(self, workspace: Workspace, crate: Crate, group: Group) -> None:
         """Checks a group, and the bodies that this refuses once more. Tells each body's verdict."""
         found, apart = self.look(crate, group, workspace)
         verdicts = {body.name: found[body.name].verdict for body in group.bodies}
@@ -227,14 +233,14 @@ class Tries:
         for body in group.bodies:
             crate.tell(body, verdicts[body.name])
 
-    def look(self, crate, group, workspace):
+    def look(self, crate: Crate, group: Group, workspace: Workspace) -> tuple[dict[str, Outcome], set[str]]:
         """Checks a group. A body that isn't refused in it is tried again in its place and by itself, since the fault
         may be another's. Returns what was found of each body, and the names of those that were tried again.
 
         But where bodies in their places are tried together, and the check says of one that it only calls what isn't
         proved, the grouping missed a call, and is told."""
         found, is_alone = self.outcomes(crate, group, workspace), len(group.bodies) == 1 and not group.copies
-        apart = set()
+        apart = set[str]()
         for body in group.bodies:
             verdict = found[body.name].verdict
             if verdict.refused or is_alone:
@@ -247,10 +253,11 @@ class Tries:
                 apart.add(body.name)
         return found, apart
 
-    def look_again(self, crate, bodies, found, suffixes, workspace):
+    def look_again(self, crate: Crate, bodies: Sequence[Body], found: Mapping[str, Outcome],
+                   suffixes: Mapping[str, str], workspace: Workspace) -> dict[str, Verdict]:
         """Checks bodies that one check refused once more, and returns the verdicts on those for which something can be
         opened or left out. They are in copies if there are suffixes, and else in their places."""
-        folder, controls = self.table.folder(crate.name), {}
+        folder, controls = self.table.folder(crate.name), dict[str, Outcome]()
         them = [again(body, found[body.name], crate.opening, crate.source, folder) for body in bodies]
         them = [it for it in them if it.is_another()]
         if not them:
@@ -263,43 +270,45 @@ class Tries:
                 if it.body.touched[0].key() in rights:
                     controls[it.body.name] = outcomes[rights[it.body.touched[0].key()].body.name]
         else:
-            there, proofs, rights, rights_proofs = in_places_again(them, crate.source, folder)
+            there, proofs, right_ones, right_proofs = in_places_again(them, crate.source, folder)
             outcomes = self.outcomes(crate, Group(there, proofs=proofs), workspace)
-            if rights:
-                controls = self.outcomes(crate, Group(rights, proofs=rights_proofs), workspace)
+            if right_ones:
+                controls = self.outcomes(crate, Group(right_ones, proofs=right_proofs), workspace)
         if len(them) > 1 and not all(outcomes[it.body.name].goals for it in them):
             # The check came to no verdict, perhaps for the sake of one of them.
             verdicts = [self.look_again(crate, [it.body], found, suffixes, workspace) for it in them]
             return {name: verdict for each in verdicts for name, verdict in each.items()}
         return {it.body.name: settled(it, outcomes[it.body.name], controls.get(it.body.name)) for it in them}
 
-    def outcomes(self, crate, group, workspace):
+    def outcomes(self, crate: Crate, group: Group, workspace: Workspace) -> dict[str, Outcome]:
         texts, paths = group.texts(crate.source), paths_of(group, crate.source)
         wrong, folder = [] if group.copies else group.functions(), self.table.folder(crate.name)
         files = [file for item in wrong for at in written_folders(item, folder) for file in at.glob("*.antt")]
         proofs = {str(file.relative_to(folder)): file.read_text(encoding="utf-8") for file in files}
-        texts = assumed(crate.source, folder, wrong, texts)
-        ran = workspace.check(texts, paths)
+        changed = assumed(crate.source, folder, wrong, texts)
+        ran = workspace.check(changed, paths)
         if paths and ran.status == 2:
             # The check knows no function of such a path: then it proves all of the crate.
             crate.spent(ran.seconds)
-            ran = workspace.check(texts, [])
+            ran = workspace.check(changed, [])
         crate.spent(ran.seconds)
-        read = {path: text for path, text in texts.items() if text is not None}
+        read = {path: text for path, text in changed.items() if text is not None}
         return group.outcomes(ran, crate.name, {**crate.source.texts, **proofs, **read})
 
-    def behind(self, key):
+    def behind(self, key: Task) -> tuple[bool, float, int]:
         """How much waits for a task: libraries that stand below many come first, and then the crates with the dearest
         functions."""
-        if key[0] == "library":
-            above = [it for it in self.table.lines if key[1] in self.table.below(it) and ("library", it) in self.tasks]
-            return True, len(above), len(self.table.below(key[1]))
-        return False, self.sizes[key[0]], -key[1]
+        kind, which = key
+        if isinstance(which, str):
+            above = [it for it in self.table.lines if which in self.table.below(it) and ("library", it) in self.tasks]
+            return True, len(above), len(self.table.below(which))
+        return False, self.sizes[kind], -which
 
-    def run(self, is_tried):
+    def run(self, is_tried: Callable[[str], None]) -> None:
         """Runs the tasks side by side, each once those that it waits for have ended and there is memory for it. It
         hands out the name of each crate once all its groups are tried."""
-        left, done, busy = sorted(self.tasks, key=self.behind, reverse=True), set(), {}
+        left, done = sorted(self.tasks, key=self.behind, reverse=True), set[Task]()
+        busy: dict[Future[None], Task] = {}
         with ThreadPoolExecutor(self.at_once) as pool:
             try:
                 while left or busy:
@@ -316,7 +325,7 @@ class Tries:
                 stop_all()
                 raise
 
-    def ready(self, left, done, room, is_first):
+    def ready(self, left: Sequence[Task], done: Container[Task], room: int, is_first: bool) -> list[Task]:
         """The tasks to start now: as many as there is room for, and one at least where nothing runs."""
         found = [key for key in left if all(it in done for it in self.tasks[key][0])][:room]
         memory = host.free_memory() // host.NEEDED

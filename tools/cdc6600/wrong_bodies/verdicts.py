@@ -15,8 +15,9 @@ text: none of that shows that a contract says enough. And silence never counts: 
 
 import re
 from dataclasses import dataclass, field
+from typing import Iterable, Mapping, Sequence
 
-from cdc6600.crates.source import items_of, module_of
+from cdc6600.crates.source import Item, items_of, module_of
 from cdc6600.crates.table import Unreadable
 
 from .opening import attributes_of
@@ -60,7 +61,7 @@ class Verdict:
     words: str
 
     @property
-    def refused(self):
+    def refused(self) -> bool:
         return self.kind == REFUSED
 
 
@@ -70,27 +71,27 @@ class Goals:
     it rejects, and those that name what is gone, each by the file's path and its name. `is_whole` says that the check
     came to each goal: it comes to none of a function that calls a closure which isn't proved."""
 
-    said: list = field(default_factory=list)
+    said: list[re.Match[str]] = field(default_factory=list)
     is_whole: bool = False
-    searched: list = field(default_factory=list)
-    rejected: list = field(default_factory=list)
-    gone: list = field(default_factory=list)
+    searched: list[str] = field(default_factory=list)
+    rejected: list[tuple[str, str]] = field(default_factory=list)
+    gone: list[tuple[str, str, str]] = field(default_factory=list)
 
-    def contract(self):
+    def contract(self) -> list[str]:
         """The goals of the contract among them."""
         return self.only([*self.searched, *(goal_in(path, name) for path, name in self.rejected)])
 
-    def every(self):
+    def every(self) -> list[str]:
         """The goals of the contract, with those of which only is said that the answer names what is gone."""
         return self.only([*self.contract(), *(goal_in(path, name) for path, name, _ in self.gone)])
 
-    def has_goal(self):
+    def has_goal(self) -> bool:
         """Whether there is a goal at all, and there are no steps but those on which goals rest."""
         names = [name for _, name, *_ in [*self.rejected, *self.gone]]
         return bool(self.searched or names) and all(GOAL.search(name) for name in names)
 
     @staticmethod
-    def only(goals):
+    def only(goals: Iterable[str]) -> list[str]:
         return [goal for goal in dict.fromkeys(goals) if CONTRACT.match(goal)]
 
 
@@ -100,10 +101,10 @@ class Outcome:
     left."""
 
     verdict: Verdict
-    goals: tuple = ()
+    goals: tuple[Goals, ...] = ()
 
 
-def is_of(name, item, crate):
+def is_of(name: str, item: Item, crate: str) -> bool:
     """Whether a name of the check's output is the function's, or that of a closure in it.
 
     A function is `crate::module::f`, and a method `crate::module::Type::f` by the type's own module. At some arguments
@@ -121,16 +122,17 @@ def is_of(name, item, crate):
     return len(steps) > 2 and re.fullmatch(owner, steps[-2]) is not None
 
 
-def goal_in(path, name):
+def goal_in(path: str, name: str) -> str:
     """A goal by the file that answers it: one of a closure is named with the closure."""
     steps = path.split("/")
     return f"{name} of the closure {steps[-2]}" if "fn" in steps[:-2] else name
 
 
-def searched_goals(found, lines, places):
+def searched_goals(found: Iterable[re.Match[str]], lines: Sequence[str],
+                   places: Sequence[tuple[str, int, int]]) -> list[str]:
     """The goals that search didn't prove of a function and of its closures, of which all this was found. Of one that
     has a proof file only a note says them, by its place in the source."""
-    goals = []
+    goals = list[str]()
     for name, says, rest in (it.groups() for it in found):
         path = f"{name.replace('::', '/')}/"
         left = [goal for words in LEFT.findall(rest) for goal in re.findall(r"`([^`]+)`", words)]
@@ -142,10 +144,10 @@ def searched_goals(found, lines, places):
     return goals
 
 
-def goals_of(lines, texts, item, crate):
+def goals_of(lines: Sequence[str], texts: Mapping[str, str], item: Item, crate: str) -> Goals:
     """What a check of these texts leaves of a function."""
 
-    def found_by(pattern):
+    def found_by(pattern: re.Pattern[str]) -> list[re.Match[str]]:
         matches = filter(None, map(pattern.match, lines))
         return [found for found in matches if is_of("::".join([crate, *found[2].split("/")]), item, crate)]
 
@@ -176,7 +178,7 @@ def goals_of(lines, texts, item, crate):
     return found
 
 
-def own_goal(goals, item):
+def own_goal(goals: Goals, item: Item) -> str | None:
     """The goal of the function's contract that isn't proved, None if all is proved, or raises what is said instead."""
     if not goals.said:
         raise Unreadable(f"the check says nothing of {item.name}")
@@ -191,13 +193,13 @@ def own_goal(goals, item):
     raise Unreadable(f"it is refused, but at no goal of the contract of {item.name}: {'; '.join(reasons)}"[:400])
 
 
-def is_end_of_proof(found):
+def is_end_of_proof(found: re.Match[str]) -> bool:
     """Whether the last line of a check says that all is proved."""
     asked, proved, verdict, holes = found.groups()
     return verdict == "proved" or holes == "0" or asked is not None and asked == proved
 
 
-def hold_to_verdict(lines, status):
+def hold_to_verdict(lines: Sequence[str], status: int) -> None:
     """Raises where the check came to no verdict, by its last line, or where its status isn't the one of that
     verdict."""
     ends = [found for found in map(ENDS.fullmatch, lines) if found]
@@ -209,12 +211,12 @@ def hold_to_verdict(lines, status):
     raise Unreadable(f"the check came to no verdict, and ended with status {status}: {reason}"[:300])
 
 
-def named(item):
+def named(item: Item) -> str:
     """A function's name, without the end of a copy's."""
     return f"{item.owner + '::' if item.owner else ''}{NUMBERED.sub('', item.name)}"
 
 
-def outcome_of(touched, said, status, crate, texts):
+def outcome_of(touched: Sequence[Item], said: str, status: int, crate: str, texts: Mapping[str, str]) -> Outcome:
     """What a check of these texts says of one of the bodies that it read, by the functions that the body changes."""
     lines, reasons = said.split("\n"), []
     try:

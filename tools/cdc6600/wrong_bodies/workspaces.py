@@ -10,10 +10,11 @@ import os
 import shutil
 from dataclasses import replace
 from pathlib import Path
+from typing import Iterable, Mapping
 
-from cdc6600.building.processes import run
+from cdc6600.building.processes import Ran, run
 from cdc6600.crates.kit import checker
-from cdc6600.crates.table import Unreadable
+from cdc6600.crates.table import Table, Unreadable
 
 from .assumed import as_proved
 
@@ -23,7 +24,7 @@ PARTS = ("src", "specs", "proofs")
 class Workspace:
     """A workspace that has one crate and what it stands on."""
 
-    def __init__(self, table, room, crate, libraries):
+    def __init__(self, table: Table, room: str | Path, crate: str, libraries: Mapping[str, "Workspace"]) -> None:
         self.table, self.crate, self.room = table, crate, Path(room)
         self.folder = self.room / "crates" / crate
         names = [*table.below(crate), crate]
@@ -38,10 +39,10 @@ class Workspace:
             shutil.copyfile(table.root / "HANDLES", self.room / "HANDLES")
         (self.folder / "out").mkdir(exist_ok=True)
 
-    def rlib(self):
+    def rlib(self) -> Path:
         return self.folder / "out/rlib"
 
-    def take_kept(self, folder, part):
+    def take_kept(self, folder: Path, part: str) -> None:
         """Takes what earlier checks of the crate kept, from the checkout or another workspace, once none is at work
         there."""
         held = os.open(folder, os.O_RDONLY)
@@ -52,13 +53,13 @@ class Workspace:
         finally:
             os.close(held)
 
-    def take_library(self, folder, stamp):
+    def take_library(self, folder: Path, stamp: str) -> None:
         """Takes the library that `rt ci` left there, and gives it the stamp by which `rt` sees that it is up to
         date."""
         self.take_kept(folder, "rlib")
         (self.rlib() / "stamp").write_text(stamp, encoding="utf-8")
 
-    def build_library(self):
+    def build_library(self) -> float:
         """Proves and builds the crate as a library, or finds it built. Returns the seconds that it took."""
         ran = run(["rt", "lib", "--jobs", "1"], self.folder)
         if ran.status or not (self.rlib() / "stamp").is_file():
@@ -67,7 +68,7 @@ class Workspace:
             raise Unreadable(f"{self.crate}: the library as it stands isn't proved, so nothing was tried: {last}")
         return ran.seconds
 
-    def check(self, texts, paths):
+    def check(self, texts: Mapping[str, str | None], paths: Iterable[str]) -> Ran:
         """Checks the crate with these texts: the functions of these paths, or all where there are none. A path without
         a text has no file. Then the crate has its own texts again, and no file more."""
         right = {path: file.read_text(encoding="utf-8") for path in texts if (file := self.folder / path).is_file()}
@@ -81,7 +82,7 @@ class Workspace:
                 self.remove(self.folder / path)
             self.write(right)
 
-    def words(self):
+    def words(self) -> list[str]:
         """The words by which the checker reads the crate over the libraries below it. It keeps nothing: where it does,
         it checks a few functions at a time, each time in a process that loads the libraries anew."""
         kit, below = checker().parent.parent, self.table.below(self.crate)
@@ -97,7 +98,7 @@ class Workspace:
         logic = ["--logic-built", f"{kit}/logic_built", "--antt-project", f"{kit}/rattle/logic/antt-project.json"]
         return [*found, *logic, "--jobs", "1"]
 
-    def remove(self, file):
+    def remove(self, file: Path) -> None:
         """Removes a file, and the folders that have nothing else."""
         file.unlink(missing_ok=True)
         for folder in file.relative_to(self.folder).parents:
@@ -105,7 +106,7 @@ class Workspace:
                 break
             (self.folder / folder).rmdir()
 
-    def write(self, texts):
+    def write(self, texts: Mapping[str, str | None]) -> None:
         for path, text in texts.items():
             if text is None:
                 (self.folder / path).unlink(missing_ok=True)

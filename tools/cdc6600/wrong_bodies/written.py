@@ -5,6 +5,7 @@ body in other words may want another answer. So the goal is left to search, for 
 """
 
 import re
+from typing import Collection, Container
 
 DECLARATION = re.compile(r"(?:abbrev |unfoldable )?(?:pub )?([^\W\d][\w'-]*)")
 # The signature of an answer.
@@ -13,12 +14,12 @@ ANSWER = re.compile(r"^(?:pub )?(\S+) : goal\.\1$", re.MULTILINE)
 PLACES = re.compile(r"(use \S+\.Goals)\.\{([^}]*)\}")
 
 
-def declared(text):
+def declared(text: str) -> set[str]:
     """The names that a proof file declares."""
     return {found[1] for found in map(DECLARATION.match, text.split("\n")) if found} - {"use", "unfolding"}
 
 
-def without(text, names):
+def without(text: str, names: Collection[str]) -> str:
     """A proof file's text without the answers and steps of these names, those that cite one of them, and the steps and
     the places that nothing cites any longer."""
     if not names:
@@ -35,7 +36,7 @@ def without(text, names):
     return "\n".join([*head, "", kept])
 
 
-def resting(text, name):
+def resting(text: str, name: str) -> list[str]:
     """The declarations of a proof file that cite this one, or another that does."""
     parts, found = declarations(text), {name}
     while more := {other for other, part in parts.items() if other not in found and cited_in(part) & found}:
@@ -43,14 +44,14 @@ def resting(text, name):
     return [other for other in parts if other in found and other != name]
 
 
-def declarations(text):
+def declarations(text: str) -> dict[str, str]:
     """The declarations of a proof file by their names: of each its signature, with the line `unfolding` below it, and
     its equations."""
-    parts, name = {}, None
+    parts, name = dict[str, str](), ""
     for line in text.split("\n"):
         found = DECLARATION.match(line)
         if found and found[1] == "use" or line.startswith("--"):
-            name = None
+            name = ""
         elif found and found[1] != "unfolding":
             name = found[1]
         if name:
@@ -58,12 +59,12 @@ def declarations(text):
     return parts
 
 
-def cited_in(text):
+def cited_in(text: str) -> set[str]:
     """The words of a text that may be names of declarations or of places."""
     return set(re.findall(r"[^\s(){}.,;]+", text))
 
 
-def with_cited(line, cited):
+def with_cited(line: str, cited: Container[str]) -> str:
     """A line that names places, with those that are cited."""
     found = PLACES.fullmatch(line)
     if not found:
