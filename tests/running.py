@@ -46,11 +46,11 @@ def bytes_of(text: str) -> bytes:
 
 
 def called(*words: str | Path, given: bytes | str = b"", **how: Any) -> Ended:
-    """Runs a command in the folder of the repository with this standard input; how it ends.
+    """Runs a command with this standard input, in the folder of the repository if no other one is given; how it ends.
 
     Raises Missing if it doesn't end within ten minutes."""
     with input_of(bytes_of(given) if isinstance(given, str) else given) as text:
-        ran = run([*map(str, words)], capture_output=True, stdin=text, cwd=ROOT, **how)
+        ran = run([*map(str, words)], capture_output=True, stdin=text, **{"cwd": ROOT, **how})
     return Ended.of(ran.returncode, ran.stdout, ran.stderr)
 
 

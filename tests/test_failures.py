@@ -28,7 +28,7 @@ from typing import Iterator
 
 import pytest
 from failing_calls import Failing
-from running import Ended, Runner, bytes_of
+from running import Ended, bytes_of
 
 from cdc6600.shared.decks import deck, log_of, session
 from cdc6600.shared.program import followed

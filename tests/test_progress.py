@@ -42,8 +42,8 @@ SESSION = session("conflicts").text.partition(b"\n" + LAST_LINE)[0] + b"\n" + LA
 # What is shown: lines of one second after the other, and then the line is cleared or interrupted.
 LINE = rb"   cdc6600: (\d+) s\r"
 SHOWN = re.compile(rb"(?:%s)+(\x1b\[K|\^C|)" % LINE)
-# The second that is waited for, and the seconds before which nothing may be shown: the clocks of the program and of this
-# test may differ a little.
+# The second that is waited for, and the seconds before which nothing may be shown: the clocks of the program and of
+# this test may differ a little.
 AWAITED, QUIET = 6, 2.9
 # The lines and columns of a terminal, at first and after the third second.
 SIZE, NARROW = (24, 80), (10, 40)
