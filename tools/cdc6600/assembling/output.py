@@ -1,8 +1,5 @@
 """What is printed of an assembled program: its deck, or its listing."""
 
-# The width of what stands before a line of the source, and what stands between two columns.
-BETWEEN = " "
-
 
 def deck_of(program, settings):
     """The lines of the deck."""

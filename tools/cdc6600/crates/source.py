@@ -14,7 +14,6 @@ CONSTANT = re.compile(r"\s*(?:pub(?:\([^)]*\))?\s+)?(?:const|static)\s+(\w+)\s*:
 MACRO = re.compile(r"macro_rules!\s+(\w+)")
 DECLARES = re.compile(r"(?:pub(?:\([^)]*\))?\s+)?(?:struct|enum|trait|union)\s+(\w+)")
 CLAUSE = re.compile(r" *(?:requires|ensures) ([a-z_0-9]+) \{")
-REQUIRES = re.compile(r"^ *requires\b", re.MULTILINE)
 CLAUSES = re.compile(r"^ *(?:requires|ensures)\b", re.MULTILINE)
 # A line of the comment above an item, or of its attributes.
 ABOVE = re.compile(r"\s*(?:///|#\[)")
@@ -121,11 +120,6 @@ class Item:
     def clauses(self):
         """The names of the clauses of its contract."""
         return {found[1] for found in map(CLAUSE.match, self.lines) if found}
-
-    @property
-    def has_requires(self):
-        """Whether its caller has something to show."""
-        return bool(REQUIRES.search(self.declaration))
 
     @property
     def comment(self):
