@@ -5,7 +5,8 @@ from __future__ import annotations
 import os
 
 import pytest
-from running import Runner
+from failing_calls import Failing
+from running import Runner, library_of
 
 from cdc6600.shared.program import Program
 
@@ -17,6 +18,13 @@ def program() -> Runner:
     path = Program().path
     os.environ.setdefault("CDC6600", path)
     return Runner(path)
+
+
+@pytest.fixture(scope="session")
+def failing(program: Runner, tmp_path_factory: pytest.TempPathFactory) -> Failing:
+    """The program with calls that fail or are counted."""
+    folder = tmp_path_factory.mktemp("failing")
+    return Failing(program, library_of("failing_calls.c", folder), folder)
 
 
 def pytest_report_teststatus(report: pytest.TestReport) -> tuple[str, str, str] | None:

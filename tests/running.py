@@ -46,11 +46,11 @@ def bytes_of(text: str) -> bytes:
 
 
 def called(*words: str | Path, given: bytes | str = b"", **how: Any) -> Ended:
-    """Runs a command in the folder of the repository with this standard input; how it ends.
+    """Runs a command with this standard input, in the folder of the repository if no other one is given; how it ends.
 
     Raises Missing if it doesn't end within ten minutes."""
     with input_of(bytes_of(given) if isinstance(given, str) else given) as text:
-        ran = run([*map(str, words)], capture_output=True, stdin=text, cwd=ROOT, **how)
+        ran = run([*map(str, words)], capture_output=True, stdin=text, **{"cwd": ROOT, **how})
     return Ended.of(ran.returncode, ran.stdout, ran.stderr)
 
 
@@ -60,11 +60,21 @@ class Runner:
 
     path: str
 
-    def __call__(self, *words: str, given: bytes | str = b"", minutes: float = 10) -> Ended:
+    def __call__(
+        self, *words: str, given: bytes | str = b"", minutes: float = 10, environment: dict[str, str] | None = None
+    ) -> Ended:
         """How the program ends with these words and this standard input. A run that doesn't end is killed after so many
         minutes, and has the status 124."""
         text = bytes_of(given) if isinstance(given, str) else given
-        return Ended.of(*Program(self.path).run(words, text, minutes))
+        return Ended.of(*Program(self.path).run(words, text, minutes, environment))
+
+
+def library_of(source: str, folder: Path) -> Path:
+    """The library that a source in C of this folder makes, to be loaded by LD_PRELOAD."""
+    library = folder / f"{source}.so"
+    words = [os.environ.get("CC", "cc"), "-O1", "-shared", "-fPIC", "-o", library, Path(__file__).with_name(source)]
+    run([*words, "-ldl"]).check_returncode()
+    return library
 
 
 def told_at_terminal(words: Sequence[str], given: bytes) -> str:

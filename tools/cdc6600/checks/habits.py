@@ -1,7 +1,7 @@
 """Checks what a user of Unix is used to: the manual page docs/use/cdc6600.1, completions in a shell, and tools/install.
 
-- `man` has no warning for the page. Its synopsis, its lines of decks, its exit statuses and its fault lines are those
-  of docs/use/formats.md, and its commands and options those that the program's help texts name.
+- `man` has no warning for the page. Its synopsis, its tables and its paragraphs are those of docs/use/formats.md, and
+  its commands and options those that the program's help texts name.
 - docs/help.txt and docs/version.txt, which ./cdc6600 shows before the program is built, are what the program prints.
 - The scripts of tools/completions have the commands and options of the program's help texts; those for zsh and fish
   have the sentences too.
@@ -20,16 +20,25 @@ Run it after a change of the command line, of the version, of docs/use/formats.m
 import os
 import re
 import tempfile
+from itertools import takewhile
 from pathlib import Path
 
 from cdc6600.installing.completions import FILES, script_file
-from cdc6600.shared.decks import FIRST, cells_of, deck, lines_of
+from cdc6600.shared.decks import FIRST, deck, lines_of
 from cdc6600.shared.program import ROOT, Program, tell
 from cdc6600.shared.waiting import faults_found, run
 
 from .manual import Manual
 
 PAGE, FORMATS = ROOT / "docs/use/cdc6600.1", ROOT / "docs/use/formats.md"
+# The sections of the page with the section of docs/use/formats.md whose paragraphs each has, and those with a table of
+# a section, by its head.
+PROSE = {"DESCRIPTION": None, "OUTPUT": "Dump", "EXAMPLES": "Examples", "LIMITS": "Limits",
+         "ENVIRONMENT AND FILES": "Environment and files"}
+TABLES = {"COMMANDS": ("Command line", "Command"), "OPTIONS": ("Command line", "Option"), "INPUT": ("Deck", "Line"),
+          "EXIT STATUS": ("Exit statuses", "Status"), "DIAGNOSTICS": ("Fault lines", "Text")}
+# How `man` shows where an entry of a list begins.
+BULLET = "o"
 # The one row that speaks of the page on which it stands.
 ELSEWHERE = ("listed below", "listed in docs/use/formats.md")
 # How the output of each block of examples ends, or what it has; the first block writes the deck.
@@ -77,31 +86,38 @@ def differing(what, wanted, came):
     return [] if wanted == came else [f"{what}: wanted {wanted}, and not {came}"]
 
 
-def table(head):
-    """The rows of the table under a head of docs/use/formats.md: what is named, and what is said of it."""
-    rows = cells_of(FORMATS, head)[1:]
-    return {cells[0].strip("`"): cells[1].replace("`", "").replace(*ELSEWHERE) for cells in rows}
+def plain(text):
+    """A text of docs/use/formats.md as the page has it: without marks and links."""
+    text = re.sub(r"[`*]", "", re.sub(r"\[([^]]*)\]\([^)]*\)", r"\1", text))
+    return text.replace(*ELSEWHERE).replace("./cdc6600", "cdc6600")
+
+
+def table(name, head):
+    """A table of docs/use/formats.md by its section and its head: what is named, and what is said of it."""
+    lines = lines_of(FORMATS, name)
+    first = next(at for at, line in enumerate(lines) if line.startswith(f"| {head} |")) + 2
+    rows = (re.split(r" \|(?= |$)", line[1:]) for line in takewhile(lambda line: line.startswith("|"), lines[first:]))
+    return {plain(cells[0]).strip(): plain(cells[1]).strip() for cells in rows}
+
+
+def prose(name):
+    """The words of a section of docs/use/formats.md, or of what is before the first one, without tables."""
+    lines = lines_of(FORMATS, name) if name else takewhile(lambda line: line[:3] != "## ", lines_of(FORMATS)[1:])
+    kept = (re.sub(r"^(- |\d+\. )", "", line) for line in lines if not line.startswith(("|", "```")))
+    return plain("\n".join(kept)).split()
 
 
 def faults_of_page(page):
     """What the page says otherwise than docs/use/formats.md."""
     faults = [f"docs/use/cdc6600.1: {fault}" for fault in page.faults()]
-    faults += differing("SYNOPSIS", shown_synopsis(), [line for line in page.sections.get("SYNOPSIS", []) if line])
-    faults += differing("EXIT STATUS", table("Exit statuses"), page.entries("EXIT STATUS"))
-    faults += differing("DIAGNOSTICS", table("Fault lines"), page.entries("DIAGNOSTICS"))
-    missing = [line for line in table("Deck") if line in lines_of_decks() and line not in page.entries("INPUT")]
-    return faults + [f"INPUT: it hasn't the line {line}" for line in missing]
-
-
-def shown_synopsis():
-    """The lines of the synopsis in docs/use/formats.md."""
-    return [line[4:] for line in lines_of(FORMATS, "Command line") if line.startswith("    ")]
-
-
-def lines_of_decks():
-    """The lines that a deck may have: the rows of the first of the two tables."""
-    names = list(table("Deck"))
-    return names[: names.index("end") + 1]
+    synopsis = [line[4:] for line in lines_of(FORMATS, "Command line") if line.startswith("    ")]
+    faults += differing("SYNOPSIS", synopsis, [line for line in page.sections.get("SYNOPSIS", []) if line])
+    for section, of_formats in TABLES.items():
+        faults += differing(section, table(*of_formats), page.entries(section))
+    for section, name in PROSE.items():
+        words = " ".join(page.sections.get(section, [])).split()
+        faults += differing(section, prose(name), [word for word in words if word != BULLET])
+    return faults
 
 
 def faults_of_help(page, program):

@@ -1,4 +1,4 @@
-"""A pseudo terminal in which a program runs, with the screen that the program draws, and what a program tells at one.
+"""A pseudo terminal in which a program runs, with the screen that the program draws.
 
 The screen is that of a VT52, whose few sequences are all read here; a program that is told another kind of terminal
 draws what nobody reads.
@@ -12,10 +12,8 @@ import signal
 import struct
 import subprocess
 import termios
-import tty
-from contextlib import suppress
 
-from cdc6600.shared.waiting import Missing, finish, input_of, wait_until
+from cdc6600.shared.waiting import Missing, wait_until
 
 COLUMNS, LINES = 80, 24
 KEYS = {"Up": "\x1bA", "Down": "\x1bB", "Left": "\x1bD", "Enter": "\r", "Redraw": "\x0c", "Closed": "\x04",
@@ -178,25 +176,6 @@ class Terminal:
         self.process.stderr.close()
         os.close(self.own)
         os.close(self.other)
-
-
-def told_at_terminal(words, text):
-    """What a program with these words and this input writes to standard error if that is a terminal, which changes no
-    byte. It is read after the program's end, so it has to fit into the terminal's buffer of some kilobytes."""
-    ours, its = pty.openpty()
-    tty.setraw(its)
-    with input_of(text) as given:
-        process = subprocess.Popen(words, stdin=given, stdout=subprocess.DEVNULL, stderr=its)
-    with process:
-        finish(process, " ".join(map(str, words)))
-    os.close(its)
-    told = b""
-    # At its end a terminal has an error where a pipe has no bytes.
-    with suppress(OSError):
-        while part := os.read(ours, 4096):
-            told += part
-    os.close(ours)
-    return told
 
 
 def begin_session():

@@ -1,18 +1,17 @@
-"""Checks the pages that are generated from sources: docs/proof/calls.md, docs/work/crates.md, docs/work/checks.md and
-docs/use/cdc6600.1.
+"""Checks the pages that are generated from sources: docs/proof/calls.md, docs/work/crates.md and docs/work/checks.md.
 
     tools/check generated            names each page that isn't what the sources give now, and prints nothing else
     tools/check generated --write    writes the pages anew
 
-Run it after a change of a public call, a comment that begins a file, or docs/use/formats.md.
+Run it after a change of a public call, or of a comment that begins a file.
 """
 
 import sys
 
-from cdc6600.generating import calls, checks, crate_map, manual_page
+from cdc6600.generating import calls, checks, crate_map
 from cdc6600.shared.program import ROOT
 
-PAGES = (calls, crate_map, checks, manual_page)
+PAGES = (calls, crate_map, checks)
 
 
 def main() -> int:

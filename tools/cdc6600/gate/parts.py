@@ -25,7 +25,7 @@ ASKING = (
 )
 NAMES = (*SMALL, BODIES, *DECKS, *BUILDING)
 # The tests that run in several processes, and in how many at most.
-SHARED_OUT = {"decks": 4, "pages": 4, "sequential": 4, "trace": 4}
+SHARED_OUT = dict.fromkeys(("decks", "pages", "sequential", "mutations", "failures", "trace", "many-jobs"), 4)
 # Those whose modules are in the folder of the gate.
 OF_GATE = (*SMALL, "spent-tokens")
 

@@ -108,20 +108,6 @@ PHRASES = {
     r"\bput.{0,20} in its place\b": "put there instead",
 }
 
-# Names that went: whoever brings one back finds its successor here.
-GONE = {
-    "SomePlace": "SomePosition",
-    "Sought": "Located",
-    "sought": "located",
-    "moved_on": "after_parcel",
-    "poke": "store_word",
-    "then_replay": "option_and_then",
-    "do_now": "write_and_jump",
-    "ScanningMachine": "ListMachine",
-    "Spoken": "ScheduleLine",
-    "Tracked": "CheckedWriter",
-}
-
 
 def files() -> list[Path]:
     """The files that are read, as paths from the root. The pages that are generated have the words of sources."""
@@ -157,9 +143,6 @@ def faults_in(path: Path) -> Iterator[str]:
         for phrase, instead in PHRASES.items():
             if re.search(phrase, line):
                 yield f"{path}:{number}: here, {instead}: {line.strip()}"
-        for old, new in GONE.items():
-            if re.search(rf"\b{old}\b", line):
-                yield f"{path}:{number}: `{old}` is called `{new}`: {line.strip()}"
 
 
 def main() -> int:

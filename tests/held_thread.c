@@ -1,4 +1,4 @@
-/* Holds one thread of a program before it does anything. threads.py has it loaded by LD_PRELOAD.
+/* Holds one thread of a program before it does anything. test_threads.py has it loaded by LD_PRELOAD.
  *
  *     HELD_THREAD    which of the threads that the program starts is held, from 1 on; 0 for none
  *     HELD_UNTIL     the reading end of a pipe: the thread goes on when the writing end is closed
