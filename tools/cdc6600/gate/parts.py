@@ -7,7 +7,7 @@ from cdc6600.shared.program import ROOT
 TESTS = "tests"
 # They look at sources and pages alone, and take seconds.
 SMALL = ("definitions", "generated", "examples", "sizes", "limits", "words", "names", "layout", "readings",
-         "edits", "style", "where-test")
+         "edits", "style", "where")
 # They try the tools that prove and that try wrong bodies, on small workspaces.
 BODIES = "wrong-bodies-test"
 BUILDING = ("spent-tokens", "build-program-test")
