@@ -26,8 +26,6 @@ ASKING = (
 NAMES = (*SMALL, BODIES, *DECKS, *BUILDING)
 # The tests that run in several processes, and in how many at most.
 SHARED_OUT = {"decks": 4, "pages": 4, "sequential": 4, "trace": 4}
-# Those whose modules are in the folder of the gate.
-OF_GATE = (*SMALL, "spent-tokens")
 
 
 def command(name):
@@ -42,7 +40,7 @@ def called(name):
 
 def module(name):
     """The name of a check's module."""
-    return f"cdc6600.{'gate' if name in OF_GATE else 'checks'}.{name.replace('-', '_')}"
+    return f"cdc6600.{'gate' if name in SMALL else 'checks'}.{name.replace('-', '_')}"
 
 
 def test_of(name):
