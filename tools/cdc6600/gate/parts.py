@@ -9,7 +9,7 @@ TESTS = "tests"
 SMALL = ("definitions", "generated", "examples", "sizes", "limits", "words", "names", "layout", "readings",
          "edits", "style", "where")
 # They try the tools that prove and that try wrong bodies, on small workspaces.
-BODIES = "wrong-bodies-test"
+BODIES = "wrong-bodies"
 BUILDING = ("spent-tokens", "build-program-test")
 # They try the program and the tools.
 DECKS = (
