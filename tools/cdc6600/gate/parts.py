@@ -10,7 +10,7 @@ SMALL = ("definitions", "generated", "examples", "sizes", "limits", "words", "na
          "edits", "style", "where")
 # They try the tools that prove and that try wrong bodies, on small workspaces.
 BODIES = "wrong-bodies"
-BUILDING = ("spent-tokens", "build-program-test")
+BUILDING = ("spent-tokens", "build-program")
 # They try the program and the tools.
 DECKS = (
     "decks", "pages", "assembler", "image", "busy", "threads", "sequential", "large",
