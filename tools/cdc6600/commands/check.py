@@ -27,7 +27,7 @@ from typing import Sequence
 
 from cdc6600.asking.library import KEPT, library_path
 from cdc6600.checks.debian import python_with, require
-from cdc6600.gate.parts import ASKING, NAMES, SHARED_OUT, called, command, file_of, is_test, module
+from cdc6600.gate.parts import ASKING, DECKS, NAMES, SHARED_OUT, called, command, file_of, is_test, module
 from cdc6600.generating.checks import docstring_of
 from cdc6600.shared.ending import shown
 from cdc6600.shared.program import ROOT, program_path
@@ -42,8 +42,9 @@ def help_text() -> str:
 
 def run_test(name: str, words: Sequence[str]) -> int:
     """Runs a check by pytest, in several processes if it takes long; its status. Those that failed are kept by the name
-    of the check, for --lf. The program is built before if it has to be."""
-    program_path()
+    of the check, for --lf. The program is built before if the check tries it and it has to be."""
+    if name in DECKS:
+        program_path()
     processes = ["-n", str(min(SHARED_OUT[name], len(os.sched_getaffinity(0))))] if name in SHARED_OUT else []
     options = ["-o", f"cache_dir=out/{name}", *processes, *words]
     pytest = [python_with("pytest"), "-B", "-m", "pytest", file_of(name), *options]

@@ -7,10 +7,10 @@ from cdc6600.shared.program import ROOT
 TESTS = "tests"
 # They look at sources and pages alone, and take seconds.
 SMALL = ("definitions", "generated", "examples", "sizes", "limits", "words", "names", "layout", "readings",
-         "edits", "style", "where-test")
+         "edits", "style", "where")
 # They try the tools that prove and that try wrong bodies, on small workspaces.
-BODIES = "wrong-bodies-test"
-BUILDING = ("spent-tokens", "build-program-test")
+BODIES = "wrong-bodies"
+BUILDING = ("spent-tokens", "build-program")
 # They try the program and the tools.
 DECKS = (
     "decks", "pages", "assembler", "image", "busy", "threads", "sequential", "large",
@@ -26,8 +26,6 @@ ASKING = (
 NAMES = (*SMALL, BODIES, *DECKS, *BUILDING)
 # The tests that run in several processes, and in how many at most.
 SHARED_OUT = dict.fromkeys(("decks", "pages", "sequential", "mutations", "failures", "trace", "many-jobs"), 4)
-# Those whose modules are in the folder of the gate.
-OF_GATE = (*SMALL, "spent-tokens")
 
 
 def command(name: str) -> list[str]:
@@ -41,7 +39,7 @@ def called(name: str) -> str:
 
 
 def module(name: str) -> str:
-    return f"cdc6600.{'gate' if name in OF_GATE else 'checks'}.{name.replace('-', '_')}"
+    return f"cdc6600.{'gate' if name in SMALL else 'checks'}.{name.replace('-', '_')}"
 
 
 def test_of(name: str) -> str:

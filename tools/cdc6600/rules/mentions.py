@@ -26,7 +26,7 @@ LEGEND = "refused with this number"
 # Lines that only bring in a name.
 IMPORTS = re.compile(r" *(?:ghost )?use ")
 # These modules name labels as examples.
-EXAMPLES = ("tools/cdc6600/rules/", "tools/cdc6600/commands/where.py", "tools/cdc6600/gate/where_test.py")
+EXAMPLES = ("tools/cdc6600/rules/", "tools/cdc6600/commands/where.py", "tests/test_where.py")
 
 
 @dataclass(frozen=True)
