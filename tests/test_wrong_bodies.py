@@ -1,4 +1,4 @@
-"""Tests tools/wrong-bodies on the small workspace tests/tiny, in a minute or two.
+"""Tests tools/wrong-bodies on the small workspace of tests/tiny.workspace, in a minute or two.
 
 Each edit below is handed to the runner as a wrong body. Those of REFUSED are wrong. Each of TOLD has to be told, in a
 line that says what is amiss: among them are right bodies in other words. Of those of UNSURE the prover can't tell.
@@ -9,7 +9,7 @@ Run it after a change of it, or of the kit.
 from __future__ import annotations
 
 import os
-import shutil
+import re
 from pathlib import Path
 from typing import Any, Sequence
 
@@ -33,7 +33,11 @@ from cdc6600.wrong_bodies.verdicts import CANT_TELL, REFUSED as IS_REFUSED, is_o
 from cdc6600.wrong_bodies.written import resting, without
 
 Edit = Sequence[str]
-TINY, CRATE = ROOT / "tests/tiny", Path("crates/tiny")
+CRATE = Path("crates/tiny")
+# The files of the workspace, each below a line `==> PATH <==`. They aren't files of their own, since the kit would take
+# them for a part of this repository.
+TEXT = (ROOT / "tests/tiny.workspace").read_text(encoding="utf-8")
+TINY = dict(re.findall(r"^==> (.*) <==\n(.*?)(?=^==> |\Z)", TEXT, re.MULTILINE | re.DOTALL))
 # The old text of each edit and the new one; some have two pairs.
 REFUSED: dict[str, Edit] = {
     "adds_two": ("    x + 1", "    x + 2"),
@@ -121,7 +125,7 @@ VERDICTS: dict[str, tuple[int, Edit, str | None]] = {
 
 def text_of(path: str) -> str:
     """A file of the crate."""
-    return (TINY / CRATE / path).read_text(encoding="utf-8")
+    return TINY[f"{CRATE}/{path}"]
 
 
 LIBRARY, PROOF = text_of("src/lib.rt"), text_of("proofs/two_more/Answers.antt")
@@ -129,7 +133,9 @@ LIBRARY, PROOF = text_of("src/lib.rt"), text_of("proofs/two_more/Answers.antt")
 
 def write_edits(root: Path, edits: dict[str, Edit], folder: str = "wrong-bodies") -> Path:
     """Writes edits into the workspace, which is made if it isn't there; its folder."""
-    shutil.copytree(TINY, root, dirs_exist_ok=True)
+    for path, text in TINY.items():
+        (root / path).parent.mkdir(parents=True, exist_ok=True)
+        (root / path).write_text(text, encoding="utf-8")
     (root / CRATE / folder).mkdir(exist_ok=True)
     for name, edit in edits.items():
         lines = [f"old: {old}\nnew: {new}\n" for old, new in zip(edit[::2], edit[1::2])]
