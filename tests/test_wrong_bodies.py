@@ -37,7 +37,7 @@ CRATE = Path("crates/tiny")
 # The files of the workspace, each below a line `==> PATH <==`. They aren't files of their own, since the kit would take
 # them for a part of this repository.
 TEXT = (ROOT / "tests/tiny.workspace").read_text(encoding="utf-8")
-TINY = dict(re.findall(r"^==> (.*) <==\n(.*?)(?=^==> |\Z)", TEXT, re.MULTILINE | re.DOTALL))
+TINY = dict(re.findall(r"^==> ([^\n]*) <==\n(.*?)(?=^==> |\Z)", TEXT, re.MULTILINE | re.DOTALL))
 # The old text of each edit and the new one; some have two pairs.
 REFUSED: dict[str, Edit] = {
     "adds_two": ("    x + 1", "    x + 2"),
