@@ -25,6 +25,9 @@ def hook(kind: type[BaseException], fault: BaseException, trace: TracebackType |
     status 1."""
     if isinstance(fault, MemoryError) or (isinstance(fault, ImportError) and NO_ROOM in str(fault)):
         sys.stderr.write(f"{sys.argv[0]}: memory was refused\n")
+    elif isinstance(fault, SyntaxError):
+        # Where memory is refused to Python's parser, it may say that the text of a module is wrong.
+        sys.stderr.write(f"{sys.argv[0]}: {fault.filename} can't be read: memory was refused, or the file is damaged\n")
     elif not is_interrupt(fault):
         sys.__excepthook__(kind, fault, trace)
 
