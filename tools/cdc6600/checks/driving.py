@@ -45,13 +45,13 @@ from cdc6600.timing.reservations import rows_of
 from cdc6600.timing.times import read_times
 from cdc6600.timing.waits import Account
 
-from .assembler import FAULTY, GOOD, PLACED, SHORT, SOURCES, WHOLE, bad_sources, each_text
 from .browsers import in_each
 from .driving_scripts import (
     ABOUT, AGAIN, ASSEMBLED, CALL, COLUMNS, FAULT, FOCUS, FOCUSED, GO_ON, IN_SIGHT, KEPT, LINK, LISTED, MORE, OPENED,
     PLAYED, PRINTED, READY, SEEN, START, STEPS, TIMED, WALK,
 )
 from .page_scripts import CONTRAST, SCROLLED, SMALL
+from .sources import all_sources
 from .web_driver import Refused
 
 WINDOWS, LEAST_CONTRAST = ((1280, 900), (640, 450), (400, 740), (320, 640)), 4.5
@@ -105,17 +105,6 @@ def wanted_of(program, name, text):
     cycles = clocked(following, read_times())
     steps = zip(Page(following, name).steps(), cycles, strict=True)
     return [{**{part: step[part] for part in PARTS}, "cycle": cycle} for step, cycle in steps], rows, cycles[-1]
-
-
-def texts():
-    """The source programs that are tried, good and bad."""
-    yield from (file.read_text(encoding="utf-8") for file in sorted(SOURCES.glob("*.source")))
-    yield from (text for text, _ in bad_sources())
-    yield from (f"START NO\n{text}" for text, _ in PLACED)
-    yield from (text for text, _ in WHOLE)
-    yield from ("\n".join(["START PS", *(f" {pair[of]}" for pair in SHORT), "L PS"]) for of in (0, 1))
-    yield "START PS\n" + "".join(f"L{number} {text}\n" for number, text in enumerate(each_text()))
-    yield from (GOOD, FAULTY, "", "\n", "START PS\n" + " BAD\n" * 25)
 
 
 def assembled(text):
@@ -214,7 +203,7 @@ class Tried:
 
     def sources(self):
         """Compares what the page assembles with what tools/assemble does."""
-        given = list(texts())
+        given = list(all_sources())
         for text, came in zip(given, self.browser.run(ASSEMBLED, given, SOURCE)):
             self.faults += differences(f"the source {text[:60]!r}", assembled(text), came)
 

@@ -25,7 +25,9 @@ ASKING = (
 )
 NAMES = (*SMALL, BODIES, *DECKS, *BUILDING)
 # The tests that run in several processes, and in how many at most.
-SHARED_OUT = dict.fromkeys(("decks", "pages", "sequential", "mutations", "failures", "trace", "many-jobs"), 4)
+SHARED_OUT = dict.fromkeys(
+    ("decks", "pages", "assembler", "sequential", "mutations", "failures", "trace", "many-jobs"), 4
+)
 
 
 def command(name: str) -> list[str]:
