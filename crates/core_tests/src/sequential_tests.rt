@@ -534,7 +534,7 @@ fn add(log: &mut Log, did: Did) -> Result<(), Refusal> {
         Did::PpWrite(at, number) => log.wrote(at, word(number)),
         Did::Instruction => {
             if log.issues() < u64::MAX {
-                log.issued(1);
+                log.issued();
             }
         }
     }

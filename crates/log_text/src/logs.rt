@@ -203,7 +203,7 @@ fn add_entry(log: &mut Log, entry: &Entry) -> Result<(), Refusal>
     }
     match *entry {
         Entry::Exchange(at) => log.exchanged(at),
-        Entry::Issued(count) => log.issued(count),
+        Entry::Issued(count) => log.issued_many(count),
         Entry::PpRead(at) => log.read_at(at),
         Entry::PpWrite(at, word) => log.wrote(at, word),
     }

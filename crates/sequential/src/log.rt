@@ -1,4 +1,4 @@
-ghost use Rattle.std.specs.Prelude.{◌≡◌, ◌<◌, ◌≤◌, ◌+◌, ◌++◌, ◌^◌, [], ◌∷◌, false, MatchResult, if◌then◌else◌};
+ghost use Rattle.std.specs.Prelude.{◌≡◌, ◌<◌, ◌≤◌, ◌+◌, ◌++◌, ◌^◌, [], ◌∷◌, true, false, MatchResult, if◌then◌else◌};
 ghost use Rattle.std.specs.Prelude.{◌-◌, ◌||◌, min, nat_lt, replicate};
 ghost use Rattle.instructions.specs.declared.refusal.Refusal.TheVariants.{OutOfMemory};
 ghost use Rattle.sequential.specs.Log.{issued, last_run, steps_of, entries_of, ends_issuing};
@@ -138,10 +138,21 @@ impl Log {
         self.entries.push_reserved(Entry::PpWrite(at, word));
     }
 
+    /// Appends an instruction: adds 1 to the last entry if it is a count, and otherwise makes a new entry.
+    pub fn issued(&mut self)
+        requires room { ends_issuing self.old.steps ≡ false → 0 < self.old.room }
+        requires count { last_run self.old.steps + 1 < 2 ^ 64 }
+        ensures steps { self.new.steps ≡ self.old.steps ++ Issued ∷ [] }
+        ensures room { self.new.room + (if ends_issuing self.old.steps then 0 else 1) ≡ self.old.room }
+        ensures issuing { ends_issuing self.new.steps ≡ true }
+    {
+        self.issued_many(1);
+    }
+
     /// Appends `count` instructions: adds them to the last entry if it is a count, and otherwise makes a new entry. A
     /// count of 0 needs no room.
     #[tactic(auto, using(crate::proofs::Entries::count_last, crate::proofs::Entries::raised_steps, crate::proofs::Entries::raised_open, crate::proofs::Entries::open_at_count, crate::proofs::Entries::raised_after, crate::proofs::Entries::closed_at_last, crate::proofs::Entries::none_last, crate::proofs::Entries::count_added, crate::proofs::Entries::opened_by_count, crate::proofs::Entries::added_after, crate::proofs::Entries::issuing_many))]
-    pub fn issued(&mut self, count: u64)
+    pub fn issued_many(&mut self, count: u64)
         requires room { ends_issuing self.old.steps ≡ false → 0 < count → 0 < self.old.room }
         requires count { last_run self.old.steps + count < 2 ^ 64 }
         ensures steps { self.new.steps ≡ self.old.steps ++ replicate count Issued }

@@ -81,7 +81,7 @@ impl Course {
         ensures made { IsIssued count self.old self.new }
     {
         let made = issue_many(&mut self.state, count);
-        self.log.issued(made);
+        self.log.issued_many(made);
         self.requests.issued_many(made);
     }
 

@@ -7,8 +7,8 @@ use Rattle.sequential.specs.Log.{Logged, steps_of, last_run, ends_issuing}
 use Rattle.sequential.specs.Replay.{Issued}
 use Rattle.sequential.proofs.Entries.{ends_open, more_after, counted_more, shortest_after_issues, room_for_count, room_kept, room_spent}
 use Rattle.sequential.proofs.Entries.{raised_steps, raised_after, count_added, added_after, closed_at_last, none_last, open_at_count}
-use Rattle.sequential.proofs.log.Log.issued.Goals.{in-Some+in_default-last, in_default}
-use Rattle.sequential.proofs.log.Log.issued.Goals as goal
+use Rattle.sequential.proofs.log.Log.issued_many.Goals.{in-Some+in_default-last, in_default}
+use Rattle.sequential.proofs.log.Log.issued_many.Goals as goal
 
 pub invariant_of-self : goal.invariant_of-self
 invariant_of-self c =
