@@ -51,6 +51,13 @@ fn keeps_units_together(rt: HostRuntime) {
     );
 }
 
+/// `as_array` refers to the values in the order of the units' numbers.
+#[test]
+fn refers_in_order(rt: HostRuntime) {
+    let all = PerUnit::from_array(KEPT);
+    assert_eq!(rt; all.as_array(), [&10, &11, &12, &13, &14, &15, &16]);
+}
+
 /// `unzip` splits the pairs that `zip` made.
 #[test]
 fn unzips(rt: HostRuntime) {

@@ -49,7 +49,7 @@ fn beginning(p: u32) -> ProgramPosition {
     }
 }
 
-/// The first word follows the last, and a jump goes to the beginning of a word.
+/// The first word follows the last, and no word is held at the beginning of a word.
 #[test]
 fn moves_on(rt: HostRuntime) {
     let last = index(0o777777);
@@ -57,8 +57,6 @@ fn moves_on(rt: HostRuntime) {
         ProgramPosition::after_parcel(last, word(PASSES), 3),
         ProgramPosition::after_parcel(last, word(PASSES), 4),
         ProgramPosition::at(last),
-        held_at(PASSES, 2).after_jump(None),
-        held_at(PASSES, 2).after_jump(Some(index(0))),
     ];
     let wanted = [
         ProgramPosition {
@@ -67,8 +65,6 @@ fn moves_on(rt: HostRuntime) {
         },
         beginning(0),
         beginning(0o777777),
-        held_at(PASSES, 2),
-        beginning(0),
     ];
     assert_eq!(rt; found, wanted);
     assert_eq!(rt;

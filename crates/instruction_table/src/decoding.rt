@@ -198,20 +198,29 @@ fn increment(target: Target, m: Digit, i: Digit, j: Digit, k: Digit, address: Wo
     TableEntry::Short(Instr::Increment { target, i, addends })
 }
 
-/// The entry of a parcel and the parcel that follows it.
+/// Decodes as `decode` does, given the first two digits. If the digits are a constant, the compiler keeps only the code
+/// for that opcode.
 #[inline(always)]
-#[tactic(auto, using(crate::proofs::table::DecodingLaws::entry_known))]
-fn entry_at(parcel: u16, following: u16) -> TableEntry
-    requires parcel { parcel < 2 ^ 15 }
-    requires following { following < 2 ^ 15 }
-    ensures { result ≡ entry_of parcel following }
+pub fn decode_as(word: Word60, position: u8, digits: u16) -> Decoded
+    requires position { position < 4 }
+    requires digits { digits ≡ digits_at word position }
+    ensures value { result ≡ reading_at word position }
+    ensures range { GoesOn position result }
 {
+    let low = parcel_of(word, position) % 0x200;
+    let parcel = digits * 0x200 + low;
+    // No parcel follows the last parcel of a word.
+    let following = if position < 3 {
+        parcel_of(word, position + 1)
+    } else {
+        0
+    };
     let m = Digit::low(parcel >> 9);
     let i = Digit::low(parcel >> 6);
     let j = Digit::low(parcel >> 3);
     let k = Digit::low(parcel);
     let constant = Word18::from_bits(u32::from(parcel % 8) * 0x8000 + u32::from(following));
-    match parcel >> 12 {
+    let entry = match parcel >> 12 {
         0 => branch(m, i, j, constant),
         1 => logical(m, i, j, k),
         2 => shift(m, i, j, k),
@@ -220,27 +229,8 @@ fn entry_at(parcel: u16, following: u16) -> TableEntry
         5 => increment(Target::A, m, i, j, k, constant),
         6 => increment(Target::B, m, i, j, k, constant),
         _ => increment(Target::X, m, i, j, k, constant),
-    }
-}
-
-/// Decodes as `decode` does, given the first two digits. If the digits are a constant, the compiler keeps only the code
-/// for that opcode.
-#[inline(always)]
-#[tactic(auto, using(crate::proofs::table::DecodingLaws::settled_at, crate::proofs::table::DecodingLaws::whole_parcel, crate::proofs::table::DecodingLaws::long_settled, crate::proofs::table::DecodingLaws::straddled))]
-pub fn decode_as(word: Word60, position: u8, digits: u16) -> Decoded
-    requires position { position < 4 }
-    requires digits { digits ≡ digits_at word position }
-    ensures value { result ≡ reading_at word position }
-    ensures range { GoesOn position result }
-{
-    let low = parcel_of(word, position) % 0x200;
-    // No parcel follows the last parcel of a word.
-    let following = if position < 3 {
-        parcel_of(word, position + 1)
-    } else {
-        0
     };
-    match entry_at(digits * 0x200 + low, following) {
+    match entry {
         TableEntry::Short(instr) => Decoded::Legal(instr, position + 1),
         TableEntry::Long(instr) if position < 3 => Decoded::Legal(instr, position + 2),
         TableEntry::Long(_) => Decoded::Straddle,
@@ -280,5 +270,5 @@ pub fn decode(word: Word60, position: u8) -> Decoded
     // Both the instructions decoded and the opcodes refused agree with the instruction table.
     ensures table { IsByTable word position result }
 {
-    decode_as(word, position, first_digits(word, position))
+    decode_as(word, position, parcel_of(word, position) >> 9)
 }

@@ -2,7 +2,7 @@
 //!
 //! Callers rely on `PerUnit::get`, which returns the value of a unit, and on `zip` and `map`, which keep the values of
 //! one unit together.
-ghost use Rattle.std.specs.Prelude.{◌≡◌, ◌∷◌, [], IfSome, MatchOption, Some, None, is_some};
+ghost use Rattle.std.specs.Prelude.{◌≡◌, ◌∷◌, [], IfSome, MatchOption, Some, None, is_some, map};
 ghost use Rattle.instructions.specs.declared.instr.Unit.TheVariants.{Branch, Boolean, Shift, LongAdd, Divide};
 ghost use Rattle.instructions.specs.declared.instr.Unit.TheVariants.{Increment1, Increment2};
 ghost use Rattle.instructions.specs.PerUnit.{in_order, of_unit, is_complete, paired, Each};
@@ -127,6 +127,21 @@ impl<T> PerUnit<T> {
             increment1: &self.increment1,
             increment2: &self.increment2,
         }
+    }
+
+    /// References to the values as an array, in the order of the units' numbers.
+    pub fn as_array(&self) -> [&T; 7]
+        ensures { map (λ found. found.now) result ≡ in_order self.now }
+    {
+        [
+            &self.branch,
+            &self.boolean,
+            &self.shift,
+            &self.long_add,
+            &self.divide,
+            &self.increment1,
+            &self.increment2,
+        ]
     }
 
     /// References to the values, to change them.

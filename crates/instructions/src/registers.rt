@@ -91,13 +91,6 @@ impl Pair {
     }
 }
 
-/// Whether the two are the same register.
-fn is_same(left: Reg, right: Reg) -> bool
-    ensures { result ≡ reg_eq left right }
-{
-    left == right
-}
-
 /// Adds a register, if there is one, unless the list has it or it is B0.
 fn add(sources: &mut ArrayVec<Reg, 3>, register: Option<Reg>)
     requires { array_vec_len sources.old < 3 }
@@ -107,8 +100,12 @@ fn add(sources: &mut ArrayVec<Reg, 3>, register: Option<Reg>)
     let Some(register) = register else {
         return;
     };
-    let is_there = sources.iter().any(|source| is_same(register, *source));
-    if !is_same(register, Reg::default()) && !is_there {
+    let is_there = sources.iter().any(
+        |other|
+            ensures { result ≡ reg_eq register other.now }
+        { register == *other },
+    );
+    if register != Reg::default() && !is_there {
         sources.push(register);
     }
 }

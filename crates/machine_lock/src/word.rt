@@ -3,7 +3,7 @@ ghost use Rattle.std.specs.Prelude.{◌≡◌, ◌++◌, ◌∷◌, [], true, le
 ghost use Rattle.sequential.specs.Log.{steps_of};
 ghost use Rattle.sequential.specs.Replay.{Issued};
 ghost use Rattle.machine_lock.specs.CallerKnowledge.{AreApart};
-ghost use Rattle.machine_lock.specs.inner.Rules.{history, past, fresh, Continues, with_told, kept_back};
+ghost use Rattle.machine_lock.specs.inner.Rules.{history, past, fresh, Continues, kept_back};
 ghost use Rattle.machine_lock.specs.inner.Rules.{handed_back, Looked, IsKeeper, IsCaller};
 
 use crate::rule::{
@@ -66,17 +66,6 @@ impl<K: Naming> Word<K> {
         self.table.shared.split_seat::<Shares>(pass)
     }
 
-    /// Takes a caller's pass into this one.
-    fn take_in(&self, pass: &mut Pass, other: &mut Pass)
-        requires pass { (pass.old.table_id ≡ K.table) × (pass.old.me.1 ≡ []) }
-        requires other { IsCaller K.table other.old.me.0.seen other.old.me.0.mine other.old }
-        ensures pass { (pass.new.table_id ≡ K.table)
-            × (pass.new.me ≡ (with_told pass.old.me.0 other.old.me.0, [])) }
-    {
-        let given = self.table.shared.split_seat::<HandsOver>(other);
-        self.table.shared.join_seat::<TakesIn>(pass, given);
-    }
-
     // ---- the machine and its callers ----
 
     /// Adds a step that a caller made to the knowledge of the machine's pass. The caller then knows the whole log, and
@@ -92,7 +81,8 @@ impl<K: Naming> Word<K> {
         ensures begins { Continues pass.old.me.0.seen me.old.me.0.seen }
     {
         let _ = from;
-        self.take_in(pass, me);
+        let given = self.table.shared.split_seat::<HandsOver>(me);
+        self.table.shared.join_seat::<TakesIn>(pass, given);
         self.table.shared.fetch_add::<Adds<J>>(pass, 0, 1);
         *me = self.table.shared.split_seat::<HandsBack>(pass);
     }
@@ -105,7 +95,8 @@ impl<K: Naming> Word<K> {
         ensures me { IsCaller K.table pass.old.me.0.seen me.old.me.0.mine me.new }
         ensures begins { Continues pass.old.me.0.seen me.old.me.0.seen }
     {
-        self.take_in(pass, me);
+        let given = self.table.shared.split_seat::<HandsOver>(me);
+        self.table.shared.join_seat::<TakesIn>(pass, given);
         self.look(pass);
         *me = self.table.shared.split_seat::<HandsBack>(pass);
     }
@@ -120,7 +111,8 @@ impl<K: Naming> Word<K> {
             × Continues one.new.me.0.seen other.old.me.0.seen }
         ensures apart { AreApart one.old.me.0.mine other.old.me.0.mine }
     {
-        self.take_in(one, other);
+        let given = self.table.shared.split_seat::<HandsOver>(other);
+        self.table.shared.join_seat::<TakesIn>(one, given);
         self.look(one);
         *other = self.table.shared.split_seat::<HandsBack>(one);
     }

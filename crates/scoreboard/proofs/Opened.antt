@@ -1,18 +1,11 @@
 -- A name for each list of definitions that a proof opens at once.
-use Rattle.scoreboard.specs.Conflicts.{first_free}
 use Rattle.scoreboard.specs.Units.{first_unit, head_unit, units_of, same_unit}
 use Rattle.scoreboard.specs.Writers.{same_writer, is_expected, writer_at, writer_if}
-use Rattle.scoreboard.specs.inner.Fields.{free_for}
 
 -- the first unit of a kind
 unfoldable pub first_of_kind : Unit {0}
 unfolding first_unit head_unit units_of
 first_of_kind = tt
-
--- the first free unit of a kind
-unfoldable pub free_of_kind : Unit {0}
-unfolding free_for first_free units_of
-free_of_kind = tt
 
 -- the writer of one register, if there is one
 unfoldable pub writer_of_one : Unit {0}

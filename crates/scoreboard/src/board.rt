@@ -12,11 +12,13 @@ ghost use Rattle.scoreboard.specs.Answers.{held_in, returning_by, read_answer, s
 ghost use Rattle.scoreboard.specs.Answers.{turn_answer, reserve_answer, reserved, read, left, gone, with_issued};
 
 use crate::fields::{
-    any_reference, first_unit, first_with_writer, forget_in_taken, free_unit,
-    has_earlier_reference, is_still_read,
+    any_reference, first_unit, first_with_writer, forget_in_taken, has_earlier_reference,
+    is_still_read,
 };
 use crate::{Issued, Occupancy, Reservation, Writer, Writers};
-use instructions::{Digit, Instr, MemoryUse, Refusal, Reg, Unit, results, sources};
+use instructions::{
+    Digit, Instr, MemoryUse, Refusal, Reg, Unit, UnitKind, results, sources, unit_kind,
+};
 use std::marker::Model;
 
 /// The instructions that hold a unit or have a load still to return, and the writer of each register (Thornton,
@@ -88,9 +90,22 @@ impl Board {
         ensures { result ≡ reserve_answer self.now instr.now
             (unit_for reservation_of self.now.issued (uses instr.now).unit) }
     {
-        let Some(unit) = free_unit(&self.units, instr) else {
+        let Some(kind) = unit_kind(instr) else {
             return Err(Refusal::UnitBusy(first_unit(instr)));
         };
+        let unit = match kind {
+            UnitKind::Branch => Unit::Branch,
+            UnitKind::Boolean => Unit::Boolean,
+            UnitKind::Shift => Unit::Shift,
+            UnitKind::LongAdd => Unit::LongAdd,
+            UnitKind::Divide => Unit::Divide,
+            UnitKind::Increment if self.units[Unit::Increment1 as usize].is_some() =>
+                Unit::Increment2,
+            UnitKind::Increment => Unit::Increment1,
+        };
+        if self.units[unit as usize].is_some() {
+            return Err(Refusal::UnitBusy(first_unit(instr)));
+        }
         let results = results(instr);
         let taken = self.writers.of(results.as_slice());
         match first_with_writer(results.as_slice(), &taken) {

@@ -6,8 +6,8 @@ ghost use Rattle.instructions.specs.declared.instr.Unit.TheVariants.{Branch};
 ghost use Rattle.instructions.specs.Operands.{uses};
 ghost use Rattle.scoreboard.specs.Units.{first_unit};
 ghost use Rattle.scoreboard.specs.Reservations.{has_turn};
-ghost use Rattle.scoreboard.specs.inner.Fields.{slot_at, in_increment, is_taken, slot_is};
-ghost use Rattle.scoreboard.specs.inner.Fields.{free_for, forget_in_taken, slot_reads, slot_has_turn, first_produced};
+ghost use Rattle.scoreboard.specs.inner.Fields.{slot_at, in_increment, slot_is};
+ghost use Rattle.scoreboard.specs.inner.Fields.{forget_in_taken, slot_reads, slot_has_turn, first_produced};
 ghost use Rattle.std.specs.List.{list_any};
 
 use crate::writer::forget_in;
@@ -75,29 +75,6 @@ pub(crate) fn has_earlier_reference(units: &[Option<Issued>], number: u64) -> bo
             }
         },
     )
-}
-
-/// The lower-numbered free unit of the instruction's kind. `None` if the instruction takes no unit or no unit of its
-/// kind is free.
-#[tactic(auto, unfolding(crate::proofs::Opened::free_of_kind))]
-pub(crate) fn free_unit(units: &[Option<Issued>], instr: &Instr) -> Option<Unit>
-    requires { length units.now ≡ 10 }
-    ensures { result ≡ free_for (is_taken units.now) (uses instr.now).unit }
-{
-    let unit = match unit_kind(instr)? {
-        UnitKind::Branch => Unit::Branch,
-        UnitKind::Boolean => Unit::Boolean,
-        UnitKind::Shift => Unit::Shift,
-        UnitKind::LongAdd => Unit::LongAdd,
-        UnitKind::Divide => Unit::Divide,
-        UnitKind::Increment if units[Unit::Increment1 as usize].is_some() => Unit::Increment2,
-        UnitKind::Increment => Unit::Increment1,
-    };
-    if units[unit as usize].is_none() {
-        Some(unit)
-    } else {
-        None
-    }
 }
 
 /// The lower-numbered unit of an instruction's kind, or Branch if the instruction takes no unit.

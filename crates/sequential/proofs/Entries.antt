@@ -1,12 +1,31 @@
 -- The entries of a log, after one is appended or a count is raised.
 use Rattle.std.proofs.Common.{◌≡◌, ◌<◌, ◌≤◌, ◌+◌, ◌-◌, ℕ, zero, suc, true, false, List, [], ◌∷◌, ◌++◌, Some, None}
 use Rattle.std.proofs.Common.{length, refl, sym, ap, ◌∙◌, append_assoc, append-nil, arith}
-use Rattle.std.specs.Prelude.{◌^◌, Bool, if◌then◌else◌, min, replicate, slice_get, slice_set}
+use Rattle.std.specs.Prelude.{◌^◌, ◌||◌, Bool, if◌then◌else◌, min, nat_lt, replicate, slice_get, slice_set}
+use Rattle.std.proofs.lemmas.Bool.Decides.{nat_tests}
 use Rattle.sequential.specs.declared.log.Entry.{Entry}
 use Rattle.sequential.specs.declared.log.Entry.TheVariants.{Issued as Count, Exchange, PpRead, PpWrite}
-use Rattle.sequential.specs.Log.{Logged, steps_of, entries_of, one_before, more_after, ends_open, ends_issuing, issued}
+use Rattle.sequential.specs.Log.{Logged, steps_of, entries_of, one_before, ends_issuing, issued}
 use Rattle.sequential.specs.Log.{run_after, last_run}
 use Rattle.sequential.specs.Replay.{LogStep, Issued, Exchanged, ReadAt, Wrote}
+
+-- the entries with n more instructions at the end
+unfoldable pub more_after : ℕ → List Entry → List Entry
+more_after n [] = Count n ∷ []
+more_after n (Count k ∷ []) = Count (k + n) ∷ []
+more_after n (Exchange k ∷ []) = Exchange k ∷ Count n ∷ []
+more_after n (PpRead a ∷ []) = PpRead a ∷ Count n ∷ []
+more_after n (PpWrite a w ∷ []) = PpWrite a w ∷ Count n ∷ []
+more_after n (e ∷ f ∷ es) = e ∷ more_after n (f ∷ es)
+
+-- the last entry is a count of instructions
+unfoldable pub ends_open : List Entry → Bool
+ends_open [] = false
+ends_open (Count n ∷ []) = true
+ends_open (Exchange n ∷ []) = false
+ends_open (PpRead a ∷ []) = false
+ends_open (PpWrite a w ∷ []) = false
+ends_open (e ∷ f ∷ es) = ends_open (f ∷ es)
 
 -- an entry that is no count, with its one step
 pub record IsSingle (x : LogStep) (e : Entry) : Type 0 where
@@ -305,18 +324,18 @@ pub room_for_count : (es : List Entry) (log : Logged) (spare : ℕ) → es ≡ e
     → ends_open es ≡ false → 0 < spare
 room_for_count es log spare h e asked closed = grind (arith, open_as_issuing)
 
-spent : (is_open : Bool) (length capacity new : ℕ) → new ≡ length + (if is_open then 0 else 1)
-    → (is_open ≡ false → 0 < capacity - length)
-    → capacity - new + (if is_open then 0 else 1) ≡ capacity - length
-spent true length capacity new e room = omega (arith, e)
-spent false length capacity new e room = let k = room refl in omega (arith, e, k)
+-- the room left, if the last count was raised
+pub room_kept : (es : List Entry) (log : Logged) (spare n : ℕ) → es ≡ entries_of (steps_of es)
+    → record { steps = steps_of es; room = spare } ≡ log → ends_open es ≡ true
+    → spare + (if ends_issuing log.steps then 0 else n) ≡ log.room
+room_kept es log spare n h e is_open = grind (arith, open_as_issuing)
 
--- the room left after more instructions
-pub room_after_count : (es : List Entry) (log : Logged) (length capacity new : ℕ) → es ≡ entries_of (steps_of es)
-    → record { steps = steps_of es; room = capacity - length } ≡ log
-    → (ends_issuing log.steps ≡ false → 0 < log.room) → new ≡ length + (if ends_open es then 0 else 1)
-    → capacity - new + (if ends_issuing log.steps then 0 else 1) ≡ log.room
-room_after_count es log length capacity new h e asked k = grind (arith, open_as_issuing, spent, room_for_count)
+-- the room left, if a count was appended
+pub room_spent : (es : List Entry) (log : Logged) (length capacity new n : ℕ) → es ≡ entries_of (steps_of es)
+    → record { steps = steps_of es; room = capacity - length } ≡ log → ends_open es ≡ false → 0 < n
+    → length < capacity → new ≡ length + 1
+    → capacity - new + (if ends_issuing log.steps then 0 else min n 1) ≡ log.room
+room_spent es log length capacity new n h e closed some room k = grind (arith, open_as_issuing)
 
 pub issuing_no_more : (x : LogStep) (e : Entry) → IsSingle x e → (steps : List LogStep)
     → ends_issuing (steps ++ x ∷ []) ≡ false
@@ -330,6 +349,19 @@ unfolding ends_issuing
 issuing_after [] = refl
 issuing_after (s ∷ []) = refl
 issuing_after (s ∷ t ∷ steps) = issuing_after (t ∷ steps)
+
+snoc : (n : ℕ) → replicate (suc n) Issued ≡ replicate n Issued ++ Issued ∷ []
+snoc n = ap (λ m. replicate m Issued) (let e : suc n ≡ n + 1 = omega arith in e) ∙ replicate-sum n 1
+
+-- the last step after n more instructions
+pub issuing_many : (steps : List LogStep) (n : ℕ)
+    → ends_issuing (steps ++ replicate n Issued) ≡ (nat_lt 0 n || ends_issuing steps)
+issuing_many steps zero = ap ends_issuing (append-nil steps)
+issuing_many steps (suc n) =
+    let t : nat_lt 0 (suc n) ≡ true = grind (arith, nat_tests) in
+    ap (λ l. ends_issuing (steps ++ l)) (snoc n)
+    ∙ ap ends_issuing (sym (append_assoc steps (replicate n Issued) (Issued ∷ [])))
+    ∙ issuing_after (steps ++ replicate n Issued) ∙ ap (λ b. b || ends_issuing steps) (sym t)
 
 -- ---- how many instructions there are, as far as a number can tell ----
 

@@ -36,24 +36,6 @@ entries_of (Exchanged n ∷ steps) = Exchange n ∷ entries_of steps
 entries_of (ReadAt a ∷ steps) = PpRead a ∷ entries_of steps
 entries_of (Wrote a w ∷ steps) = PpWrite a w ∷ entries_of steps
 
--- the entries with n more instructions at the end
-unfoldable pub more_after : ℕ → List Entry → List Entry
-more_after n [] = Count n ∷ []
-more_after n (Count k ∷ []) = Count (k + n) ∷ []
-more_after n (Exchange k ∷ []) = Exchange k ∷ Count n ∷ []
-more_after n (PpRead a ∷ []) = PpRead a ∷ Count n ∷ []
-more_after n (PpWrite a w ∷ []) = PpWrite a w ∷ Count n ∷ []
-more_after n (e ∷ f ∷ es) = e ∷ more_after n (f ∷ es)
-
--- the last entry is a count of instructions
-unfoldable pub ends_open : List Entry → Bool
-ends_open [] = false
-ends_open (Count n ∷ []) = true
-ends_open (Exchange n ∷ []) = false
-ends_open (PpRead a ∷ []) = false
-ends_open (PpWrite a w ∷ []) = false
-ends_open (e ∷ f ∷ es) = ends_open (f ∷ es)
-
 -- the last step is an instruction, so one more instruction needs no entry of its own
 unfoldable pub ends_issuing : List LogStep → Bool
 ends_issuing [] = false

@@ -1,8 +1,7 @@
 ghost use Rattle.std.specs.Prelude.{◌≡◌, ◌<◌, ◌≤◌, ◌+◌, ◌++◌, ◌^◌, [], ◌∷◌, true, false, MatchResult, if◌then◌else◌};
-ghost use Rattle.std.specs.Prelude.{◌-◌, min, replicate};
+ghost use Rattle.std.specs.Prelude.{◌-◌, ◌||◌, min, nat_lt, replicate};
 ghost use Rattle.instructions.specs.declared.refusal.Refusal.TheVariants.{OutOfMemory};
-ghost use Rattle.sequential.specs.Log.{issued, last_run, steps_of, entries_of, more_after, ends_open, ends_issuing};
-ghost use Rattle.std.specs.Vec.{vec_len, vec_capacity};
+ghost use Rattle.sequential.specs.Log.{issued, last_run, steps_of, entries_of, ends_issuing};
 ghost use Rattle.sequential.specs.Replay.{Issued, Exchanged, ReadAt, Wrote};
 
 use instructions::Refusal;
@@ -21,27 +20,6 @@ pub enum Entry {
     PpRead(u32),
     /// A peripheral processor wrote this word to this absolute address.
     PpWrite(u32, Word60),
-}
-
-/// Adds `more` instructions to the last entry if it is a count, and otherwise as a new entry.
-#[tactic(auto, using(crate::proofs::Entries::count_last, crate::proofs::Entries::raised_steps, crate::proofs::Entries::raised_open, crate::proofs::Entries::open_at_count, crate::proofs::Entries::raised_after, crate::proofs::Entries::closed_at_last, crate::proofs::Entries::none_last, crate::proofs::Entries::count_added, crate::proofs::Entries::opened_by_count, crate::proofs::Entries::added_after))]
-fn add(entries: &mut Vec<Entry>, more: u64)
-    requires room { ends_open entries.old.items ≡ false → vec_len entries.old < vec_capacity entries.old }
-    requires count { last_run (steps_of entries.old.items) + more < 2 ^ 64 }
-    ensures steps { steps_of entries.new.items ≡ steps_of entries.old.items ++ replicate more Issued }
-    ensures open { ends_open entries.new.items ≡ true }
-    ensures len { vec_len entries.new ≡ vec_len entries.old + (if ends_open entries.old.items then 0 else 1) }
-    ensures capacity { vec_capacity entries.new ≡ vec_capacity entries.old }
-    ensures entries { entries.new.items ≡ more_after more entries.old.items }
-{
-    if let Some(last) = entries.last() {
-        if let Entry::Issued(count) = *last {
-            let position = entries.len() - 1;
-            entries[position] = Entry::Issued(count + more);
-            return;
-        }
-    }
-    entries.push_reserved(Entry::Issued(more));
 }
 
 /// The steps that a machine made, in order: instructions, exchanges and peripheral accesses.
@@ -161,7 +139,6 @@ impl Log {
     }
 
     /// Appends an instruction: adds 1 to the last entry if it is a count, and otherwise makes a new entry.
-    #[tactic(auto, using(crate::proofs::Entries::room_after_count, crate::proofs::Entries::issuing_after))]
     pub fn issued(&mut self)
         requires room { ends_issuing self.old.steps ≡ false → 0 < self.old.room }
         requires count { last_run self.old.steps + 1 < 2 ^ 64 }
@@ -169,20 +146,30 @@ impl Log {
         ensures room { self.new.room + (if ends_issuing self.old.steps then 0 else 1) ≡ self.old.room }
         ensures issuing { ends_issuing self.new.steps ≡ true }
     {
-        add(&mut self.entries, 1);
-        self.issues = self.issues.saturating_add(1);
+        self.issued_many(1);
     }
 
     /// Appends `count` instructions: adds them to the last entry if it is a count, and otherwise makes a new entry. A
     /// count of 0 needs no room.
+    #[tactic(auto, using(crate::proofs::Entries::count_last, crate::proofs::Entries::raised_steps, crate::proofs::Entries::raised_open, crate::proofs::Entries::open_at_count, crate::proofs::Entries::raised_after, crate::proofs::Entries::closed_at_last, crate::proofs::Entries::none_last, crate::proofs::Entries::count_added, crate::proofs::Entries::opened_by_count, crate::proofs::Entries::added_after, crate::proofs::Entries::issuing_many))]
     pub fn issued_many(&mut self, count: u64)
         requires room { ends_issuing self.old.steps ≡ false → 0 < count → 0 < self.old.room }
         requires count { last_run self.old.steps + count < 2 ^ 64 }
         ensures steps { self.new.steps ≡ self.old.steps ++ replicate count Issued }
+        ensures room { self.new.room + (if ends_issuing self.old.steps then 0 else min count 1) ≡ self.old.room }
+        ensures issuing { ends_issuing self.new.steps ≡ (nat_lt 0 count || ends_issuing self.old.steps) }
     {
-        if count > 0 {
-            add(&mut self.entries, count);
-            self.issues = self.issues.saturating_add(count);
+        if count == 0 {
+            return;
         }
+        self.issues = self.issues.saturating_add(count);
+        if let Some(last) = self.entries.last() {
+            if let Entry::Issued(before) = *last {
+                let position = self.entries.len() - 1;
+                self.entries[position] = Entry::Issued(before + count);
+                return;
+            }
+        }
+        self.entries.push_reserved(Entry::Issued(count));
     }
 }

@@ -1,5 +1,5 @@
 ghost use Rattle.std.specs.Prelude.{◌≡◌, None};
-ghost use Rattle.sequential.specs.Position.{after_parcel, after_jump};
+ghost use Rattle.sequential.specs.Position.{after_parcel};
 
 use instructions::ParcelNumber;
 use word60::{Word18, Word60};
@@ -42,18 +42,6 @@ impl ProgramPosition {
                 held: Some(word),
             },
             None => ProgramPosition::at(p.next()),
-        }
-    }
-
-    /// The position after a jump to this address, or the same position if there is no jump.
-    #[tactic(auto, unfolding(crate::specs::Position::after_jump))]
-    #[inline(always)]
-    pub fn after_jump(self, to: Option<Word18>) -> ProgramPosition
-        ensures { result ≡ after_jump self to }
-    {
-        match to {
-            None => self,
-            Some(p) => ProgramPosition::at(p),
         }
     }
 }

@@ -68,7 +68,7 @@ impl State {
 
     /// Writes the result of an instruction, jumps, and sets the fault flag if the reference is out of range and the
     /// exit mode says so. The flag stays set. The caller makes the reference itself.
-    #[tactic(auto, unfolding(crate::specs::Work::put_any, crate::specs::Work::fault_of, crate::specs::State::stops_at_fault, crate::specs::State::bounds_of, crate::specs::State::absolute))]
+    #[tactic(auto, unfolding(crate::specs::Work::put_any, crate::specs::Work::fault_of, crate::specs::Position::after_jump, crate::specs::State::stops_at_fault, crate::specs::State::bounds_of, crate::specs::State::absolute))]
     #[inline(always)]
     pub fn write_and_jump(&mut self, work: &Work)
         ensures { self.new ≡ written self.old work.now (fault_of (bounds_of self.old) work.now.reference) }
@@ -76,7 +76,9 @@ impl State {
         if let Some(register) = work.register {
             self.registers.set(register, work.number);
         }
-        self.position = self.position.after_jump(work.jump);
+        if let Some(to) = work.jump {
+            self.position = ProgramPosition::at(to);
+        }
         // Bit 010000 (octal) of the exit mode: a reference out of range sets the flag.
         if let Some(reference) = work.reference
             && (self.area.mode.get() >> 12) % 2 == 1

@@ -17,29 +17,26 @@ pub struct ProgramReference {
     pub access: Access,
 }
 
-/// The content of an operand register, +0 if there is no operand.
-#[tactic(auto, unfolding(crate::specs::Work::operand_at))]
-#[inline(always)]
-fn operand_at(registers: &RegisterFile, register: Option<Reg>) -> Word60
-    ensures { result ≡ operand_at registers.now register }
-{
-    match register {
-        None => Word60::default(),
-        Some(register) => registers.get(register),
-    }
-}
-
 /// The operands of an instruction of the word at the address `position`.
-#[tactic(auto, unfolding(crate::specs::Work::operands))]
+#[tactic(auto, unfolding(crate::specs::Work::operands, crate::specs::Work::operand_at))]
 #[inline(always)]
 pub fn operands(instr: &Instr, position: Word18, registers: &RegisterFile) -> Operands
     ensures { result ≡ operands instr.now position registers.now }
 {
     let from = operand_registers(instr);
+    // The content of an operand register, +0 if there is no operand.
+    let content = |register: Option<Reg>|
+        ensures { result ≡ operand_at registers.entry.now register }
+    {
+        match register {
+            None => Word60::default(),
+            Some(register) => registers.get(register),
+        }
+    };
     Operands {
-        first: operand_at(registers, from.first),
-        second: operand_at(registers, from.second),
-        outgoing: operand_at(registers, from.outgoing),
+        first: content(from.first),
+        second: content(from.second),
+        outgoing: content(from.outgoing),
         place: position,
     }
 }

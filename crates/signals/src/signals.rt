@@ -60,7 +60,7 @@ impl Signals {
     /// Wakes the threads that wait for these events.
     pub fn wake(&self, wakeups: &Wakeups) {
         if wakeups.changed || wakeups.read {
-            for signal in self.workers.each().into_array() {
+            for signal in self.workers.as_array() {
                 signal.wake(wakeups);
             }
             self.issuing.wake(wakeups);
@@ -79,7 +79,7 @@ impl Signals {
 
     /// Wakes all threads.
     pub fn raise_all(&self) {
-        for signal in self.workers.each().into_array() {
+        for signal in self.workers.as_array() {
             signal.raise();
         }
         self.issuing.raise();

@@ -3,10 +3,11 @@ use Rattle.std.proofs.Common.{◌≡◌, ◌≢◌, ◌<◌, ℕ, zero, suc, tru
 use Rattle.std.proofs.Common.{refl, ap, ◌∙◌, subst, ⊎_elim, append_assoc, ◌||◌}
 use mathlib.Core.Option.{some, some-ne-none}
 use lib.ListN.{get_elem?}
-use Rattle.std.specs.Prelude.{Option, Some, None, IfSome, MatchOption}
+use Rattle.std.specs.Prelude.{Option, Some, None, Result, Ok, Err, is_ok, IfSome, MatchOption, MatchResult}
 use Rattle.crossbeam_queue.specs.Fifo.{Pushes, Pops, Forks, Merges, Learns, Held}
 use Rattle.crossbeam_queue.proofs.Lists.{at_set, at_snoc}
 use Rattle.unit_queue.specs.declared.item.Item.{Item}
+use Rattle.unit_queue.specs.declared.item.Item.TheVariants.{Closed}
 use Rattle.unit_queue.specs.declared.rule.LaneView.{LaneView}
 use Rattle.unit_queue.specs.Lanes.{is_closed, is_closing, IsOrderly, IsBeginning, Waited}
 use Rattle.unit_queue.specs.Rules.{view_of, sender, taker, Fits, IsKept, IsSent, IsTaken}
@@ -201,6 +202,17 @@ pushed v w x still h =
       ap (λ (u : LaneView). is_closed u.sent) is ∙ is_closed-push v.sent x ∙ ap (λ b. b || is_closing x) still,
       subst IsOrderly (sym (ap (λ (u : LaneView). u.sent) is)) (order_push v.sent x still),
     )
+
+-- the sender's view after `Closed` was pushed, or found no room
+pub closing : (v w : LaneView) (fact : Type 0) (r : Result (Unit {0}) Item) → is_closed v.sent ≡ false
+    → IsOrderly v.sent → MatchResult r (λ _. IsSent v Closed w) (λ x. (x ≡ Closed) × (w ≡ v) × fact)
+    → (w.sends ≡ v.sends) × (is_ok r ≡ is_closed w.sent) × IsOrderly w.sent
+closing v w fact (Ok _) still order h = let p = pushed v w Closed still h in (p.0, sym p.1, p.2)
+closing v w fact (Err x) still order h = (
+  ap (λ (u : LaneView). u.sends) h.1,
+  sym (ap (λ (u : LaneView). is_closed u.sent) h.1 ∙ still),
+  subst (λ (u : LaneView). IsOrderly u.sent) (sym h.1) order,
+)
 
 -- the items taken are closed if the last one is `Closed`
 pub took : (v w : LaneView) (nothing : Type 0) (found : Option Item) → MatchOption found nothing (λ x. IsTaken v x w)

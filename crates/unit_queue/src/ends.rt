@@ -1,6 +1,6 @@
 //! A lane and its two ends.
 ghost use Rattle.std.specs.Prelude.{◌≡◌, ◌⊎◌, ◌++◌, ◌∷◌, [], true, false, OnOk, OnErr, MatchResult, OnSome, IfSome};
-ghost use Rattle.std.specs.Prelude.{MatchOption, MatchBool, ◌&&◌, IsTrue};
+ghost use Rattle.std.specs.Prelude.{MatchOption, IsTrue};
 ghost use Rattle.instructions.specs.declared.refusal.Refusal.TheVariants.{OutOfMemory};
 ghost use Rattle.unit_queue.specs.Lanes.{LaneName, SendEnd, TakeEnd, send_end, take_end, is_closed, is_closing};
 ghost use Rattle.unit_queue.specs.Lanes.{IsOrderly, IsBeginning, IsFull, HadRoom, IsEmpty};
@@ -111,26 +111,6 @@ impl Lane {
         self.unit
     }
 
-    /// Sends an item on a lane that isn't closed, and returns whether there was room for the item.
-    fn push<R: Wait>(&self, rt: &R, pass: &mut SendPass, item: Item) -> bool
-        requires lane { pass.old.id ≡ self.now.id }
-        requires open { is_closed pass.old.sent ≡ false }
-        ensures lane { pass.new.id ≡ pass.old.id }
-        ensures sent { MatchBool result (pass.new.sent ≡ pass.old.sent ++ item ∷ []) (pass.new.sent ≡ pass.old.sent) }
-        ensures closed { is_closed pass.new.sent ≡ (result && is_closing item) }
-        ensures room { IsTrue result → HadRoom pass.old pass.new }
-        ensures full { result ≡ false → (pass.new.taken ≡ pass.old.taken) × IsFull pass.old }
-        ensures order { IsOrderly pass.new.sent }
-    {
-        match self.queue.push_as::<Sends, R>(rt, &mut pass.pass, item) {
-            Ok(()) => {
-                pass.closed = item.closes();
-                true
-            }
-            Err(_) => false,
-        }
-    }
-
     /// Sends a reservation. The pass has to be this lane's.
     ///
     /// # Errors
@@ -150,10 +130,10 @@ impl Lane {
         if pass.closed {
             return Err(note);
         }
-        if self.push(rt, pass, Item::Work(note)) {
-            Ok(())
-        } else {
-            Err(note)
+        let item = Item::Work(note);
+        match self.queue.push_as::<Sends, R>(rt, &mut pass.pass, item) {
+            Ok(()) => Ok(()),
+            Err(_) => Err(note),
         }
     }
 
@@ -169,7 +149,12 @@ impl Lane {
         ensures refused { result ≡ false → (pass.new ≡ pass.old) × IsFull pass.old }
         ensures order { IsOrderly pass.new.sent }
     {
-        pass.closed || self.push(rt, pass, Item::Closed)
+        if !pass.closed {
+            let item = Item::Closed;
+            let pushed = self.queue.push_as::<Sends, R>(rt, &mut pass.pass, item);
+            pass.closed = pushed.is_ok();
+        }
+        pass.closed
     }
 
     /// Takes the oldest item that waits. Returns `None` only if no item waited at some moment since the last one was

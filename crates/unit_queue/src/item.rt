@@ -1,8 +1,5 @@
 //! The items that a lane carries.
 
-ghost use Rattle.std.specs.Prelude.{◌≡◌};
-ghost use Rattle.unit_queue.specs.Lanes.{is_closing};
-
 use program_order::Note;
 
 /// An item that a lane carries.
@@ -12,13 +9,4 @@ pub enum Item {
     Work(Note),
     /// No more reservations come.
     Closed,
-}
-
-impl Item {
-    /// Whether the item closes the lane.
-    pub(crate) fn closes(&self) -> bool
-        ensures { result ≡ is_closing self.now }
-    {
-        matches!(self, Item::Closed)
-    }
 }

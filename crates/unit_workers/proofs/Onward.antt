@@ -17,6 +17,9 @@ at_first k = record { booted = refl; log = ([], sym (append-nil k.log)) }
 pub through : (a b c : Known) → GoesOnFrom a b → GoesOnFrom b c → GoesOnFrom a c
 through a b c f g = record { booted = g.booted ∙ f.booted; log = longer a.log b.log c.log f.log g.log }
 
+pub moved : (a b c : Known) → GoesOnFrom a b → c ≡ b → GoesOnFrom a c
+moved a b c f e = subst (λ k. GoesOnFrom a k) (sym e) f
+
 pub learnt_on : (a b : Known) → Learnt a b → GoesOnFrom a b
 learnt_on a b l = record { booted = ap (λ (k : Known). k.booted) l.1; log = l.0 }
 

@@ -122,30 +122,6 @@ fn finish<K: Naming, R: Wait>(
     }
 }
 
-/// Asks for the exchange that is due, unless another request waits.
-///
-/// # Errors
-/// Any other refusal of the request.
-fn ask_if_due<K: Naming>(
-    machine: &mut LockedMachine<K>,
-    seen: &mut Seen<K>,
-    pending: &mut PendingRequests<'_>,
-) -> Result<(), Refusal>
-    ensures onward { GoesOnFrom seen.old seen.new }
-{
-    let Some((at, _)) = pending.requests.due() else {
-        return Ok(());
-    };
-    match machine.ask(seen, at) {
-        Ok(()) => {
-            let _ = pending.requests.take_due();
-            Ok(())
-        }
-        Err(Refusal::ExchangeBusy) => Ok(()),
-        refused => refused,
-    }
-}
-
 /// Issues until an issue is refused. Before each issue it asks for the exchange that is due, unless another request
 /// waits. Returns the refusal, or `None` if the notes are full or so many instructions were issued that other threads
 /// may want the lock.
@@ -161,7 +137,15 @@ fn issue_on<K: Naming>(
     ensures onward { GoesOnFrom seen.old seen.new }
 {
     for _ in 0..ISSUES_OF_A_HOLD {
-        ask_if_due(machine, seen, pending)?;
+        if let Some((at, _)) = pending.requests.due() {
+            match machine.ask(seen, at) {
+                Ok(()) => {
+                    let _ = pending.requests.take_due();
+                }
+                Err(Refusal::ExchangeBusy) => {}
+                Err(refusal) => return Err(refusal),
+            }
+        }
         match machine.issue(seen) {
             Ok(note) => {
                 pending.requests.issued();

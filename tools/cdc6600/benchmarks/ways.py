@@ -53,10 +53,10 @@ LEFT_OUT = re.compile(
     r"|Below|word18::Word18::(?:get|widen|low_bits|from_bits)$|word60::Word60::(?:get|from_bits|low18)$"
 )
 # The functions at which a way begins and ends.
-READ, LOOP, STEP, ISSUE, RELEASE, PUSH, WORKER, STORED, STORE, WRITTEN, FAULT = (
+READ, LOOP, STEP, ISSUE, RELEASE, SEND, WORKER, STORED, STORE, WRITTEN, FAULT = (
     "line::read_line", "reading::read_deck_from", "issuing::step", "LockedMachine::issue", "Shared::release",
-    "Lane::push", "unit_worker::worker", "OpenGate::stored", "processor::Machine::store", "storage::Storage::store",
-    "Draft::apply",
+    "ends::Lane::send", "unit_worker::worker", "OpenGate::stored", "processor::Machine::store",
+    "storage::Storage::store", "Draft::apply",
 )
 # The crates that know of faults.
 OF_FAULTS = ("instructions", "deck", "deck_run", "operator_terms", "operator_main")
@@ -114,7 +114,7 @@ def lane(run: Sequence[Sequence[str]]) -> list[str]:
     thread = run[start][0]
     again = first(run, ISSUE, first(run, ISSUE, start) + 1)
     released = first(run, RELEASE, again)
-    end = first(run, PUSH, released)
+    end = first(run, SEND, released)
     return spelled(name for it, name in [*run[start:again], *run[released:end + 1]] if it == thread)
 
 

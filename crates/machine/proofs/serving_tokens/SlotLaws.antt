@@ -1,6 +1,6 @@
 -- The reservation in a unit's slot, before and after the unit's events.
 use Rattle.std.proofs.Common.{◌≡◌, ℕ, Bool, true, false, cond, ◌&&◌, List, [], ◌∷◌, ◌++◌, Option, Some, None, refl, sym}
-use Rattle.std.proofs.Common.{ap, ◌∙◌, subst, eqb, rules}
+use Rattle.std.proofs.Common.{ap, ◌∙◌, subst, eqb, rules, arith}
 use Rattle.std.proofs.lemmas.Bool.{eq-eqb, eqb-true}
 use Rattle.std.proofs.lemmas.Option.{same_Some}
 use Rattle.instructions.specs.declared.instr.Unit.{Unit as FunctionalUnit}
@@ -13,6 +13,8 @@ use Rattle.program_order.specs.declared.event.Event.TheVariants.{Finish}
 use Rattle.program_order.specs.declared.event.Note.{Note}
 use Rattle.std.specs.Prelude.{◌≢◌, IfSome, MatchBool}
 use Rattle.in_flight.specs.Pending.{has_read, is_finished, is_unread}
+use Rattle.std.proofs.lemmas.Grind.{common_steps}
+use Rattle.instructions.specs.contracts.instr.InstrPartialEq.TheImpl.{eq-value as instr_eq}
 use Rattle.instructions.specs.declared.instr.Instr.{Instr}
 use Rattle.in_flight.specs.declared.pending.Pending.{Pending}
 use Rattle.in_flight.specs.declared.pending.Phase.TheVariants.{Before}
@@ -24,7 +26,7 @@ use Rattle.in_flight.specs.Flight.{Flight, with_pending}
 use Rattle.in_flight.specs.Lookup.{located, in_phase, stage_at, stage_in}
 use Rattle.instructions.specs.Finding.{replaced, Found, put_back, seek}
 use Rattle.machine.specs.Tokens.{Computation, Reading, ServedReservation, Seating, finished_in, read_of, reading_at}
-use Rattle.machine.specs.Tokens.{reading_in, slot, unread_in}
+use Rattle.machine.specs.Tokens.{reading_in, slot, stage_under, unread_in}
 use Rattle.program_order.specs.Processor.{Processor}
 use Rattle.program_order.specs.Events.{after, allowed, tests_of}
 use Rattle.program_order.specs.Units.{finish_tests}
@@ -33,10 +35,15 @@ use Rattle.in_flight.proofs.asking.Finding.{no_sought, sought_pending, sought_wh
 use Rattle.instructions.proofs.Finding.{seek_around, seek_splits}
 use Rattle.machine.proofs.making.Making.{finish_made, flight, with_flight}
 
+-- the note of the reservation with this number, in the seat's unit
+abbrev pub note_of : Seating → ℕ → Note
+note_of seat number = record { unit = seat.unit; number = number }
+
 -- the note of a token
-pub noted : (n : Note) (t u : ServedReservation) → n ≡ record { unit = t.seat.unit; number = t.number } → t ≡ u
-    → n ≡ record { unit = u.seat.unit; number = u.number }
-noted n t u e k = e ∙ ap (λ (x : ServedReservation). record { unit = x.seat.unit; number = x.number }) k
+pub noted : (r s : Seating) (n : ℕ) (t u : ServedReservation) → r ≡ s → record { seat = s; number = n } ≡ t → t ≡ u
+    → note_of r n ≡ note_of u.seat u.number
+noted r s n t u e h k =
+    ap (λ x. note_of x n) e ∙ ap (λ (x : ServedReservation). note_of x.seat x.number) (h ∙ k)
 
 -- no instruction before the found one answers
 seek_before : {K : Type 0} (f : Pending → Option K) (ms : List Pending) (x : Found Pending K) → seek f ms ≡ Some x
@@ -110,19 +117,19 @@ one_number m n (Some f) h k = by_test (is_unread f.answer) h k
 -- a token whose number waits is loaded with its own number
 pub loaded_as : (w v : Processor) (t : ServedReservation) (k : Note) (m : Pending) (os : Operands)
     (pending : List Pending)
-    (b : Bool) → k ≡ record { unit = t.seat.unit; number = t.number } → pending ≡ w.pending
-    → b ≡ unread_in k.number (seek (stage_at k.unit) pending) → b ≡ true
+    → k ≡ note_of t.seat t.number → pending ≡ w.pending
+    → unread_in k.number (seek (stage_at k.unit) pending) ≡ true
     → unread_in m.number (slot w k.unit) ≡ true
     → ((seat : Seating) → reading_in seat (slot v k.unit)
     ≡ Some (record { seat = seat; number = m.number; instr = m.instr; operands = os }))
     → reading_in t.seat (slot v t.seat.unit)
     ≡ Some (record { seat = t.seat; number = t.number; instr = m.instr; operands = os })
-loaded_as w v t k m os pending b ek em eb et h i =
+loaded_as w v t k m os pending ek em et h i =
     ap (λ (x : Note). reading_in t.seat (slot v x.unit)) (sym ek)
     ∙ i t.seat
     ∙ ap (λ n. Some (record { seat = t.seat; number = n; instr = m.instr; operands = os }))
     (one_number m.number k.number (slot w k.unit) h
-    (ap (λ l. unread_in k.number (seek (stage_at k.unit) l)) (sym em) ∙ sym eb ∙ et)
+    (ap (λ l. unread_in k.number (seek (stage_at k.unit) l)) (sym em) ∙ et)
     ∙ ap (λ (x : Note). x.number) ek)
 
 -- whether it is the value computed from the operands
@@ -195,6 +202,13 @@ value_put w u v g i e = found (slot w u) refl i
 
 -- ---- what a token was computed from ----
 
+-- instructions that compare as equal are the same, and the other way round
+pub same_instr : (i j : Instr) → instr_eq.it i j ≡ true → i ≡ j
+same_instr i j = grind (arith, common_steps)
+
+pub instr_same : (i j : Instr) → i ≡ j → instr_eq.it i j ≡ true
+instr_same i j = grind (arith, common_steps)
+
 pub is_same : (c : Computation) (number : ℕ) (instr : Instr) (operands : Operands) (b : Bool) → c.number ≡ number
     → c.operands ≡ operands → (b ≡ true → c.instr ≡ instr) → (c.instr ≡ instr → b ≡ true)
     → MatchBool b (read_of c ≡ record { seat = c.seat; number = number; instr = instr; operands = operands })
@@ -207,33 +221,49 @@ is_same c number instr operands false en eo h k = λ e. search (rules, k (ap (λ
 
 -- ---- what the instruction that was located says of its slot ----
 
-pub unread_at : (n : ℕ) (o : Option (Found Pending Stage)) (s : Located Stage) → located o ≡ Some s
-    → (is_unread s.answer && eqb s.pending.number n) ≡ unread_in n o
-unfolding unread_in
-unread_at n None s h = absurd (no_sought s h)
-unread_at n (Some f) s h =
-    ap (λ t. is_unread t && eqb s.pending.number n) (sym (sought_what f s h))
-    ∙ ap (λ (m : Pending). is_unread f.answer && eqb m.number n) (sym (sought_pending f s h))
+-- whether there is such a stage
+abbrev pub is_at : (Stage → Bool) → Option Stage → Bool
+is_at is_such None = false
+is_at is_such (Some t) = is_such t
 
-pub unread_nowhere : (n : ℕ) (o : Option (Found Pending Stage)) → ((s : Located Stage) → located o ≡ Some s → ⊥)
-    → false ≡ unread_in n o
-unfolding unread_in located
-unread_nowhere n None h = refl
-unread_nowhere n (Some f) h = absurd (h (record { pending = f.item; answer = f.answer }) refl)
+-- a stage that counts only under its number
+at_number : (is_such : Stage → Bool) (t : Stage) (b : Bool) → (is_such t && b) ≡ is_at is_such (cond b (Some t) None)
+at_number is_such t true = by_stage (is_such t)
+  where
+    by_stage : (p : Bool) → (p && true) ≡ p
+    by_stage true = refl
+    by_stage false = refl
+at_number is_such t false = by_stage (is_such t)
+  where
+    by_stage : (p : Bool) → (p && false) ≡ false
+    by_stage true = refl
+    by_stage false = refl
 
-pub finished_at : (n : ℕ) (o : Option (Found Pending Stage)) (s : Located Stage) → located o ≡ Some s
-    → (is_finished s.answer && eqb s.pending.number n) ≡ finished_in n o
-unfolding finished_in
-finished_at n None s h = absurd (no_sought s h)
-finished_at n (Some f) s h =
-    ap (λ t. is_finished t && eqb s.pending.number n) (sym (sought_what f s h))
-    ∙ ap (λ (m : Pending). is_finished f.answer && eqb m.number n) (sym (sought_pending f s h))
+-- a reservation waits under its number if it is located and unread
+pub unread_by : (n : ℕ) (o : Option (Found Pending Stage))
+    → unread_in n o ≡ is_at is_unread (stage_under n (located o))
+unfolding unread_in stage_under located
+unread_by n None = refl
+unread_by n (Some f) = at_number is_unread f.answer (eqb f.item.number n)
 
-pub finished_nowhere : (n : ℕ) (o : Option (Found Pending Stage)) → ((s : Located Stage) → located o ≡ Some s → ⊥)
-    → false ≡ finished_in n o
-unfolding finished_in located
-finished_nowhere n None h = refl
-finished_nowhere n (Some f) h = absurd (h (record { pending = f.item; answer = f.answer }) refl)
+-- the reservation that was located waits under its number
+pub unread_now : (n : ℕ) (o : Option (Found Pending Stage)) (r : Option Stage) (t : Stage)
+    → r ≡ stage_under n (located o) → r ≡ Some t → t ≡ Unread → unread_in n o ≡ true
+unfolding is_unread
+unread_now n o r t e h k = unread_by n o ∙ ap (is_at is_unread) (sym e ∙ h ∙ ap Some k)
+
+-- a reservation has its value under its number if it is located and finished
+pub finished_by : (n : ℕ) (o : Option (Found Pending Stage))
+    → finished_in n o ≡ is_at is_finished (stage_under n (located o))
+unfolding finished_in stage_under located
+finished_by n None = refl
+finished_by n (Some f) = at_number is_finished f.answer (eqb f.item.number n)
+
+-- the reservation that was located has its value under its number
+pub finished_now : (n : ℕ) (o : Option (Found Pending Stage)) (r : Option Stage) (t : Stage) (v : UnitValue)
+    → r ≡ stage_under n (located o) → r ≡ Some t → t ≡ Finished v → finished_in n o ≡ true
+unfolding is_finished
+finished_now n o r t v e h k = finished_by n o ∙ ap (is_at is_finished) (sym e ∙ h ∙ ap Some k)
 
 reads_as : (seat : Seating) (o : Option (Found Pending Stage)) (s : Located Stage) → located o ≡ Some s
     → reading_in seat o ≡ reading_at seat s.pending.number s.pending.instr s.answer
@@ -242,24 +272,6 @@ reads_as seat None s h = absurd (no_sought s h)
 reads_as seat (Some f) s h =
     ap (λ (m : Pending). reading_at seat m.number m.instr f.answer) (sought_pending f s h)
     ∙ ap (reading_at seat s.pending.number s.pending.instr) (sought_what f s h)
-
-pub reads_nothing : (seat : Seating) (o : Option (Found Pending Stage)) (x : Reading)
-    → ((s : Located Stage) → located o ≡ Some s → ⊥) → reading_in seat o ≡ Some x → ⊥
-unfolding reading_in located
-reads_nothing seat None x h k = cc
-reads_nothing seat (Some f) x h k = h (record { pending = f.item; answer = f.answer }) refl
-
-pub reads_waiting : (seat : Seating) (o : Option (Found Pending Stage)) (m : Pending) (x : Reading)
-    → located o ≡ Some (record { pending = m; answer = Unread }) → reading_in seat o ≡ Some x → ⊥
-unfolding reading_at
-reads_waiting seat o m x h k =
-    let e : None ≡ Some x = sym (reads_as seat o (record { pending = m; answer = Unread }) h) ∙ k in cc
-
-pub reads_finished : (seat : Seating) (o : Option (Found Pending Stage)) (m : Pending) (v : UnitValue) (x : Reading)
-    → located o ≡ Some (record { pending = m; answer = Finished v }) → reading_in seat o ≡ Some x → ⊥
-unfolding reading_at
-reads_finished seat o m v x h k =
-    let e : None ≡ Some x = sym (reads_as seat o (record { pending = m; answer = Finished v }) h) ∙ k in cc
 
 -- a token belongs to the slot if it carries the operands of the slot
 pub reads_same : (b : Bool) (t : Computation) (o : Option (Found Pending Stage)) (m : Pending) (os : Operands)

@@ -61,18 +61,18 @@ or_second : (p q : Bool) → q ≡ true → (p || q) ≡ true
 or_second true q h = refl
 or_second false q h = h
 
-pub read_named_to : (w : Processor) (note : Note) (pending : List Pending) (b : Bool) (k : Refusal)
-    → pending ≡ w.pending → b ≡ unread_in note.number (seek (stage_at note.unit) pending) → b ≡ true
+pub read_named_to : (w : Processor) (note : Note) (pending : List Pending) (k : Refusal)
+    → pending ≡ w.pending → unread_in note.number (seek (stage_at note.unit) pending) ≡ true
     → allowed w (Read note.unit) ≡ Some k → (is_stranger k || is_read_refusal k) ≡ true
-read_named_to w note pending b k em eb et h =
+read_named_to w note pending k em et h =
     or_second (is_stranger k) (is_read_refusal k)
     (waiting_named w note.unit note.number k
-    (ap (λ l. unread_in note.number (seek (stage_at note.unit) l)) (sym em) ∙ sym eb ∙ et) h)
+    (ap (λ l. unread_in note.number (seek (stage_at note.unit) l)) (sym em) ∙ et) h)
 
-pub store_named_to : (w : Processor) (note : Note) (pending : List Pending) (b : Bool) (k : Refusal)
-    → pending ≡ w.pending → b ≡ finished_in note.number (seek (stage_at note.unit) pending) → b ≡ true
+pub store_named_to : (w : Processor) (note : Note) (pending : List Pending) (k : Refusal)
+    → pending ≡ w.pending → finished_in note.number (seek (stage_at note.unit) pending) ≡ true
     → allowed w (Store note.unit) ≡ Some k → (is_stranger k || is_store_refusal k) ≡ true
-store_named_to w note pending b k em eb et h =
+store_named_to w note pending k em et h =
     or_second (is_stranger k) (is_store_refusal k)
     (finished_named w note.unit note.number k
-    (ap (λ l. finished_in note.number (seek (stage_at note.unit) l)) (sym em) ∙ sym eb ∙ et) h)
+    (ap (λ l. finished_in note.number (seek (stage_at note.unit) l)) (sym em) ∙ et) h)

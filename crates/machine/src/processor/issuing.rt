@@ -43,7 +43,7 @@ impl Machine {
                 Some(Note { unit, number })
             }
         };
-        self.log.issued();
+        self.log.issued_many(1);
         Ok(Done::Issued(note))
     }
 }

@@ -49,12 +49,12 @@ use Rattle.scoreboard.specs.declared.writer.Writer.{Writer}
 use Rattle.scoreboard.specs.declared.writers.Writers.{Writers}
 use Rattle.scoreboard.specs.Answers.{held_in, unless, turn_answer}
 use Rattle.scoreboard.specs.Conflicts.{is_held}
-use Rattle.scoreboard.specs.inner.Fields.{slot_is, slot_has_turn, slot_at, is_taken, in_increment}
+use Rattle.scoreboard.specs.inner.Fields.{slot_is, slot_has_turn, slot_at, in_increment}
 use Rattle.scoreboard.specs.Issued.{reservation_of, number_of}
 use Rattle.scoreboard.specs.Reservations.{holds, is_branch, has_turn, has_store_turn, is_reserved}
 use Rattle.scoreboard.specs.Units.{unit_number, same_unit, units_of, may_take}
 use Rattle.scoreboard.specs.inner.View.{in_slots, slot_in, slot_of, IsOfKind, IsRight}
-use Rattle.scoreboard.proofs.changing.Reserving.{held_taken}
+use Rattle.scoreboard.proofs.changing.Reserving.{is_taken, held_taken}
 use Rattle.scoreboard.proofs.in_slots.InSlots.{own_keys}
 use Rattle.scoreboard.proofs.in_slots.Standing.{units_any, none_any, unit_slot, earlier_any, here_held, others_free}
 

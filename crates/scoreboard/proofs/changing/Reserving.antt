@@ -1,7 +1,7 @@
 -- Reserving a unit: the writer of each register, and the board's list.
 use Rattle.std.proofs.Common.{◌≡◌, ◌<◌, ◌≤◌, ℕ, zero, suc, Bool, true, false, cond, List, [], ◌∷◌, ◌++◌, Option, Some}
 use Rattle.std.proofs.Common.{None, refl, sym, ap, ◌∙◌, subst, eqb, get_or, set, length, arith}
-use Rattle.std.specs.Prelude.{is_some, ◌&&◌, ◌||◌, IfSome, find, Result, Ok, Err, option_to_list}
+use Rattle.std.specs.Prelude.{if◌then◌else◌, is_some, ◌&&◌, ◌||◌, IfSome, find, Result, Ok, Err, option_to_list}
 use Rattle.std.specs.List.{list_any}
 use Rattle.std.proofs.lemmas.Bool.{eq-eqb, eqb-true, eqb-false, le-ltb, lt-ltb, or_parts}
 use Rattle.std.proofs.lemmas.List.{length-set, length-append, set-append_left, get_or_append_left, get_or-set_same}
@@ -11,7 +11,11 @@ use Rattle.instructions.specs.declared.instr.Instr.{Instr}
 use Rattle.instructions.specs.declared.instr.Reg.{Reg}
 use Rattle.instructions.specs.declared.instr.Reg.TheVariants.{X, A, B}
 use Rattle.instructions.specs.declared.instr.Unit.{Unit as FunctionalUnit}
+use Rattle.instructions.specs.declared.instr.Unit.TheVariants.{Increment1, Increment2, Branch as BranchUnit}
+use Rattle.instructions.specs.declared.instr.Unit.TheVariants.{Boolean as BooleanUnit, Shift as ShiftUnit}
+use Rattle.instructions.specs.declared.instr.Unit.TheVariants.{LongAdd as LongAddUnit, Divide as DivideUnit}
 use Rattle.instructions.specs.declared.instr.UnitKind.{UnitKind}
+use Rattle.instructions.specs.declared.instr.UnitKind.TheVariants.{Branch, Boolean, Shift, LongAdd, Divide, Increment}
 use Rattle.instructions.specs.declared.refusal.Refusal.{Refusal}
 use Rattle.instructions.specs.declared.refusal.Refusal.TheVariants.{UnitBusy, ResultReserved}
 use Rattle.instructions.specs.RegisterLists.{is_in}
@@ -26,7 +30,7 @@ use Rattle.scoreboard.specs.declared.writer.Writer.TheVariants.{OfUnit, OfChanne
 use Rattle.scoreboard.specs.declared.writers.Writers.{Writers}
 use Rattle.scoreboard.specs.Answers.{Standing, new_issued, reserve_answer, reserved}
 use Rattle.instructions.specs.Each.{Each, Pairs}
-use Rattle.scoreboard.specs.inner.Fields.{is_taken, free_for, first_produced}
+use Rattle.scoreboard.specs.inner.Fields.{slot_at, first_produced}
 use Rattle.scoreboard.specs.Issued.{reservation_of, number_of, channel_of, written_by_channel, written_in, written_by}
 use Rattle.scoreboard.specs.Issued.{or_else, first_some, if_earlier, writer_of, writer_before}
 use Rattle.instructions.specs.Order.{sort_by, somes, IsInSlots}
@@ -34,11 +38,12 @@ use Rattle.scoreboard.specs.inner.View.{standing_of, in_slots, slot_in, slot_of,
 use Rattle.scoreboard.specs.inner.View.{IsRight}
 use Rattle.scoreboard.specs.Writers.{IsRegister, writer_at, set_writer, set_each}
 use Rattle.instructions.proofs.Lists.{each_map, any_same}
-use Rattle.instructions.proofs.Slots.{within, in_slots_fill, sort_new}
+use Rattle.instructions.proofs.Slots.{slot_any, within, in_slots_fill, sort_new}
 use Rattle.instructions.proofs.Sorted.{any_sort, before_place, after_place, somes-at}
 use Rattle.scoreboard.proofs.in_slots.Registers.{AreSized, reg_eq_same, set_gives, set_sized, each_sized, each_gives}
 use Rattle.scoreboard.proofs.in_slots.Writing.{some_any, some_written, all_earlier}
 use Rattle.scoreboard.proofs.in_slots.InSlots.{pairs_put, each_here, each_put, writer_put, unit_below}
+use Rattle.scoreboard.proofs.in_slots.Small.{index_of, index_is, index_below}
 use Rattle.scoreboard.proofs.in_slots.Standing.{none_any, unit_slot, nobody_holds, here_holds, produced_found, any_find}
 use Rattle.scoreboard.proofs.changing.Right.{right_again, producers_same}
 
@@ -130,6 +135,15 @@ any_here t os i x h e =
     ∙ ap (λ b. list_any t (before_place os i) || (b || list_any t (after_place os i))) e
     ∙ or_true (list_any t (before_place os i))
 
+-- the unit's slot is taken
+abbrev pub is_taken : List (Option Issued) → FunctionalUnit → Bool
+is_taken units unit = is_some (slot_at units unit)
+
+-- the first unit of a kind whose slot isn't taken
+unfoldable pub free_for : (FunctionalUnit → Bool) → Option UnitKind → Option FunctionalUnit
+free_for taken None = None
+free_for taken (Some kind) = first_free taken (units_of kind)
+
 -- a unit is held exactly if its slot is filled
 pub held_taken : (units channels : List (Option Issued)) (producers : List (List (Option Writer))) (ws : Writers)
     (last : ℕ) → IsRight units channels producers ws last → (u : FunctionalUnit)
@@ -192,6 +206,52 @@ free_kind : (units : List (Option Issued)) (k : Option UnitKind) (u : Functional
 unfolding free_for may_take
 free_kind units None u h = cc
 free_kind units (Some k) u h = first_is_one (is_taken units) (units_of k) u h
+
+-- the unit of a kind that is tried: Increment 2 only if Increment 1 is taken
+unfoldable pub tried : (FunctionalUnit → Bool) → UnitKind → FunctionalUnit
+tried taken Branch = BranchUnit
+tried taken Boolean = BooleanUnit
+tried taken Shift = ShiftUnit
+tried taken LongAdd = LongAddUnit
+tried taken Divide = DivideUnit
+tried taken Increment = if taken Increment1 then Increment2 else Increment1
+
+-- the unit that is tried is the first free unit of its kind, unless it is taken
+tried_first : (taken : FunctionalUnit → Bool) (kind : UnitKind)
+    → first_free taken (units_of kind) ≡ (if taken (tried taken kind) then None else Some (tried taken kind))
+unfolding first_free units_of tried
+tried_first taken Branch = refl
+tried_first taken Boolean = refl
+tried_first taken Shift = refl
+tried_first taken LongAdd = refl
+tried_first taken Divide = refl
+tried_first taken Increment = by_test (taken Increment1) refl
+  where
+    by_test : (b : Bool) → taken Increment1 ≡ b
+        → (if taken Increment1 then (if taken Increment2 then None else Some Increment2) else Some Increment1)
+        ≡ (if taken (if taken Increment1 then Increment2 else Increment1) then None
+        else Some (if taken Increment1 then Increment2 else Increment1))
+    by_test true e = simp e
+    by_test false e = simp e
+
+-- Increment 1 is taken, by the code's look at its slot
+pub first_taken : (units : List (Option Issued)) (o : Option Issued) (b : Bool) → length units ≡ 10
+    → b ≡ is_some (get_or units 8 o) → is_taken units Increment1 ≡ b
+first_taken units o b l e = ap is_some (slot_any units 8 o (omega arith)) ∙ sym e
+
+-- the first free unit of the kind is the unit that is tried, if the code finds that unit's slot empty
+tried_for : (units : List (Option Issued)) (k q : Option UnitKind) (kind : UnitKind) (u : FunctionalUnit)
+    (o : Option Issued) (b taken : Bool) → length units ≡ 10 → q ≡ k → q ≡ Some kind
+    → u ≡ tried (is_taken units) kind → b ≡ is_some (get_or units (index_of u) o) → b ≡ taken
+    → free_for (is_taken units) k ≡ (if taken then None else Some u)
+unfolding free_for
+tried_for units k q kind u o b taken l ek eq eu eb et =
+    let slot : is_taken units u ≡ b =
+    ap (λ n. is_some (get_or units n None)) (sym (index_is u))
+    ∙ ap is_some (slot_any units (index_of u) o (omega (arith, index_below u))) ∙ sym eb in
+    ap (free_for (is_taken units)) (sym ek ∙ eq) ∙ tried_first (is_taken units) kind
+    ∙ ap (λ v. if is_taken units v then None else Some v) (sym eu)
+    ∙ ap (λ c. if c then None else Some u) (slot ∙ et)
 
 pub free_slot : (units : List (Option Issued)) (k : Option UnitKind) (u : FunctionalUnit)
     → free_for (is_taken units) k ≡ Some u → get_or units (unit_number u) None ≡ None
@@ -494,10 +554,13 @@ first_found units channels producers ws last i rs ss ps q right h v er es eq =
     ∙ ap (find (awaited reservation_of (sort_by number_of (in_slots units channels)))) es
 
 pub unit_found : (units channels : List (Option Issued)) (producers : List (List (Option Writer))) (ws : Writers)
-    (last : ℕ) (k : Option UnitKind) (o q : Option FunctionalUnit) → IsRight units channels producers ws last
-    → o ≡ free_for (is_taken units) k → o ≡ q → unit_for reservation_of (standing_of units channels last).issued k ≡ q
-unit_found units channels producers ws last k o q right e h =
-    sym (free_same units channels producers ws last right k) ∙ sym e ∙ h
+    (last : ℕ) (k q : Option UnitKind) (kind : UnitKind) (u : FunctionalUnit) (o : Option Issued) (b taken : Bool)
+    → IsRight units channels producers ws last → q ≡ k → q ≡ Some kind → u ≡ tried (is_taken units) kind
+    → b ≡ is_some (get_or units (index_of u) o) → b ≡ taken
+    → unit_for reservation_of (standing_of units channels last).issued k ≡ (if taken then None else Some u)
+unit_found units channels producers ws last k q kind u o b taken right ek eq eu eb et =
+    sym (free_same units channels producers ws last right k)
+    ∙ tried_for units k q kind u o b taken right.all_units ek eq eu eb et
 
 pub slot_found : (units : List (Option Issued)) (k : Option UnitKind) (o : Option FunctionalUnit) (u : FunctionalUnit)
     (i : ℕ) → o ≡ free_for (is_taken units) k → o ≡ Some u → i ≡ unit_number u → get_or units i None ≡ None

@@ -1,12 +1,10 @@
 -- Queries of the fields of a board, and changes of the fields. A slot is the field of one unit or of one load channel.
 -- Source: Thornton, scoreboard; docs/machine/rules.md compares the fields with his.
-use Rattle.std.specs.Prelude.{ℕ, Bool, false, ◌&&◌, ◌||◌, nat_lt, List, [], ◌∷◌, Option, Some, None, is_some, map}
+use Rattle.std.specs.Prelude.{ℕ, Bool, false, ◌&&◌, ◌||◌, nat_lt, List, [], ◌∷◌, Option, Some, None, map}
 use Rattle.std.specs.Prelude.{slice_index_or}
 use Rattle.instructions.specs.declared.instr.Unit.TheVariants.{Increment1, Increment2}
-use Rattle.instructions.specs.declared.instr.UnitKind.{UnitKind}
 use Rattle.scoreboard.specs.declared.reservation.Reservation.{Reservation}
-use Rattle.scoreboard.specs.Conflicts.{first_free}
-use Rattle.scoreboard.specs.Units.{units_of, unit_number}
+use Rattle.scoreboard.specs.Units.{unit_number}
 use Rattle.scoreboard.specs.declared.writer.Writer.{Writer}
 use Rattle.scoreboard.specs.Writers.{forget}
 use Rattle.instructions.specs.declared.instr.Reg.{Reg}
@@ -40,18 +38,9 @@ first_produced (r ∷ rs) (Some w ∷ ps) = Some r
 abbrev pub slot_at : List (Option Issued) → FunctionalUnit → Option Issued
 slot_at units unit = slice_index_or units (unit_number unit) None
 
--- the unit's slot is taken
-abbrev pub is_taken : List (Option Issued) → FunctionalUnit → Bool
-is_taken units unit = is_some (slot_at units unit)
-
 -- the slot of an Increment unit meets the test
 abbrev pub in_increment : (Option Issued → Bool) → List (Option Issued) → Bool
 in_increment test units = test (slot_at units Increment1) || test (slot_at units Increment2)
-
--- the first unit of a kind whose slot isn't taken
-unfoldable pub free_for : (FunctionalUnit → Bool) → Option UnitKind → Option FunctionalUnit
-free_for taken None = None
-free_for taken (Some kind) = first_free taken (units_of kind)
 
 -- the producers without this writer; those of a free unit are unchanged
 unfoldable pub forget_in_taken : Writer → List (Option Issued) → List (List (Option Writer))
