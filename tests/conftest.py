@@ -11,6 +11,11 @@ from running import Runner, library_of
 from cdc6600.shared.program import Program
 
 
+def pytest_addoption(parser: pytest.Parser) -> None:
+    """`--seed` draws other sessions than those of each run."""
+    parser.addoption("--seed", default="25")
+
+
 @pytest.fixture(scope="session")
 def program() -> Runner:
     """The program that CDC6600 names, or the one that is built of the sources as they are. The tools that a test calls

@@ -14,19 +14,20 @@ BUILDING = ("spent-tokens", "build-program")
 # They try the program and the tools.
 DECKS = (
     "decks", "pages", "assembler", "image", "busy", "threads", "sequential", "large",
-    "mutations", "failures", "allocations", "emulators", "trace", "random-sessions", "values", "operate", "scheduling",
+    "mutations", "failures", "allocations", "emulators", "trace", "random-sessions", "operate", "scheduling",
     "exploring", "cycles", "browser", "driving", "progress", "habits", "launcher", "archive", "many-jobs",
     "tool-failures", "embedding", "module", "built-files",
 )
 # Those of them whose tools ask the library, which is made before.
 ASKING = (
-    "decks", "pages", "assembler", "random-sessions", "values", "operate", "scheduling", "exploring", "cycles",
+    "decks", "pages", "assembler", "random-sessions", "operate", "scheduling", "exploring", "cycles",
     "browser", "driving", "habits", "archive", "tool-failures",
 )
 NAMES = (*SMALL, BODIES, *DECKS, *BUILDING)
 # The tests that run in several processes, and in how many at most.
 SHARED_OUT = dict.fromkeys(
-    ("decks", "pages", "assembler", "sequential", "mutations", "failures", "trace", "many-jobs"), 4
+    ("decks", "pages", "assembler", "sequential", "mutations", "failures", "trace", "many-jobs", "scheduling",
+     "exploring", "random-sessions"), 4
 )
 
 
