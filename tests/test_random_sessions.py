@@ -126,7 +126,8 @@ def test_second_readings(program: Runner, request: pytest.FixtureRequest, number
     text = deck + "".join(f"{event}\n" for event, _ in made)
     answers = "".join(f"{answer}\n" for answer in [*(answer for _, answer in made[:-1]), *printed])
     it = Shown(Program(program.path), "a random session", text, answers)
-    second, readings = SecondReading(it.program, deck), readings_of(it.program, it.following.session, it.following.answers)
+    second = SecondReading(it.program, deck)
+    readings = readings_of(it.program, it.following.session, it.following.answers)
     judge = Judge(next(readings))
     for n, (event, answer) in enumerate(made):
         check_step(it.data["steps"][n], event, answer, second.read(event, answer))
