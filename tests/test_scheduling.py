@@ -24,6 +24,7 @@ from typing import Any, Sequence
 import pytest
 from running import Ended, Runner, called, text_of
 
+from cdc6600.checks.cycles import BANK, DECK
 from cdc6600.checks.judging_by_rules import Judge
 from cdc6600.checks.states_by_rules import readings_of
 from cdc6600.drawing.following import Session
@@ -37,10 +38,7 @@ from cdc6600.timing.waits import Account, Judged, account, faults_of
 BUDGET, TIMES = 500, read_times()
 # The decks whose sessions are followed too.
 FOLLOWED = ("two-adds", "load-store", "subroutine", "store-into-code", "ask-mid-word")
-DECK, FAULTY = "decks/two-adds.deck", "decks/run/refused.deck"
-# Two loads from a bank: addresses 1 and 41 with a reference address of 100.
-BANK = ("core 256\nat 41\nword 100000000000000\nword 100000000000000\nat 100\ncode SA1 B0+1; SA2 B0+41\ncode PS\n"
-        "start 40\nend\n")
+FAULTY = "decks/run/refused.deck"
 # Both counted by hand, from cycle 0 on: the cycles, those of the issuing position's work, and the waits of that
 # position and of each reservation. The exchange takes 26 cycles.
 #

@@ -32,8 +32,10 @@ from cdc6600.shared.program import ROOT, tell
 from cdc6600.shared.waiting import run
 from cdc6600.timing.scheduling import POLICIES, TIMED
 
-from .scheduling import BANK, DECK
-
+DECK = "decks/two-adds.deck"
+# Two loads from a bank: addresses 1 and 41 with a reference address of 100.
+BANK = ("core 256\nat 41\nword 100000000000000\nword 100000000000000\nat 100\ncode SA1 B0+1; SA2 B0+41\ncode PS\n"
+        "start 40\nend\n")
 TIMELINE, GALLERY, SCHEDULE, ASSEMBLE = (
     ROOT / "tools" / name for name in ("timeline", "gallery", "schedule", "assemble")
 )
@@ -55,8 +57,8 @@ MARKS = {
     "machine": {0: "QX", 4: "E7", 15: "D"}, "1": {0: "I", 4: "R", 7: "FS"}, "2": {2: "I", 7: "R", 10: "FS"},
     "3": {4: "IE9", 10: "R", 14: "FS"}, "4": {14: "I", 15: "D"},
 }
-# The table of the session conflicts by its events, and those of two decks by the minor cycles that scheduling.py counts
-# by hand: the number, the six moments, and what held the reservation.
+# The table of the session conflicts by its events, and those of two decks by the minor cycles that
+# test_scheduling.py counts by hand: the number, the six moments, and what held the reservation.
 TABLES = {
     "conflicts": [
         ("1", "3", "8", "9", "10", "", "", ""), ("2", "4", "11", "12", "13", "", "", ""),
