@@ -8,8 +8,8 @@
 - The module that tools/build-module makes now has the bytes of the stored one. That tool proves the crate first if a
   source is newer than what it has kept. made-with.txt names the kit and the version of `wasm-opt`.
 
-The module is left out if `rt` or `wasm-opt` isn't installed, or if `wasm-opt` has another version than the one that
-made-with.txt names: then its bytes may differ although the sources are the same. That is told.
+The module is left out if `rt` or `wasm-opt` isn't installed, or if made-with.txt names another kit or another version
+of `wasm-opt`: then its bytes may differ although the sources are the same. The check reports that.
 
 --write needs `wasm-opt`. CDC6600_MODULE may name a folder that tools/build-module has filled; one without its proof
 isn't written.
@@ -61,8 +61,9 @@ def why_left_out():
     for program in ("rt", LOWERING):
         if not shutil.which(program):
             return f"{program} isn't installed"
-    told = stored(MADE_WITH).decode(errors="replace").splitlines()[1:]
-    return f"it was made with {told[0]}, and here is {lowering()}" if told and told[0] != lowering() else ""
+    named, here = (text.decode(errors="replace").splitlines() for text in (stored(MADE_WITH), made_with()))
+    others = [f"it was made with {was}, and here is {now}" for was, now in zip(named, here) if was != now]
+    return others[0] if others else ""
 
 
 def module():
