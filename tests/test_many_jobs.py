@@ -3,13 +3,12 @@ results of each with the files beside it.
 
 - The first command: one of the decks is refused, and one more is killed in the middle of its dump. This one, whose own
   arguments have `--sequential`, may have no dump then. The same command again has to run that deck alone.
-- The command with `--sequential`, whose dumps have to be those of decks/run. The command with several calls at once,
-  which has to run every deck once.
+- The command with `--sequential`, whose dumps have to be those of decks/run.
 - Edited decks and arguments are run again, and no others. Decks of one name are refused, in one call and in two. Two
   calls at once run each deck once. A call that is killed leaves no lock, and no part of a dump becomes a dump. One that
-  is interrupted leaves no part, and neither does a full disk. Another program's results count as not done, and so do
-  those of a program that ends with 0 without a dump, or with 1 without a fault line. A file that no call has written is
-  kept, and no link is followed.
+  is interrupted leaves no part, and neither does a full disk or too little memory. Another program's results count as
+  not done, and so do those of a program that ends with 0 without a dump, or with 1 without a fault line. A file that
+  no call has written is kept, and no link is followed.
 - The script for Slurm, with more tasks than decks, two of its tasks again, and with another number of tasks.
 
 Run it after a change of that page, or of `tools/run-jobs`.
@@ -131,9 +130,8 @@ class Folder:
         return file.read_bytes() if file.is_file() else None
 
 
-def done(many: int, before: int = 0) -> Ended:
-    """The end of a call with so many jobs whose runs end with 0, so many of them before."""
-    return Ended(0, f"{many} job{'s' * (many != 1)}: {many} status 0; {before} done before\n")
+# The end of a call whose jobs are all done.
+DONE = Ended(0)
 
 
 # ---- the commands of the page ----
@@ -189,11 +187,6 @@ def test_sequential_runs(copies: Folder) -> None:
         assert copies.kept(it.name, "dump", SEQUENTIAL_JOBS) == it.dump, it
 
 
-def test_several_calls(copies: Folder) -> None:
-    came, ran = copies.run("sh", "-c", command("-P"))
-    assert (came.status, ran) == (0, EVERY)
-
-
 # ---- the tool by itself ----
 
 
@@ -208,48 +201,47 @@ def small(tmp_path: Path) -> Folder:
 
 def test_edits(small: Folder) -> None:
     words, arguments = (JOBS, ONE, "decks/two.deck"), "decks/two.arguments"
-    for change, before, ran in (
-        (lambda: None, 0, ["one", "two"]),
-        (lambda: os.utime(small.room / ONE), 2, []),
-        (lambda: small.write(ONE, "edited\n"), 1, ["one"]),
-        (lambda: small.write(arguments, "--budget 7\n"), 1, ["two"]),
-        (lambda: small.write(arguments, "--budget\n7"), 2, []),
-        (lambda: (small.room / arguments).unlink(), 1, ["two"]),
+    for change, ran in (
+        (lambda: None, ["one", "two"]),
+        (lambda: os.utime(small.room / ONE), []),
+        (lambda: small.write(ONE, "edited\n"), ["one"]),
+        (lambda: small.write(arguments, "--budget 7\n"), ["two"]),
+        (lambda: small.write(arguments, "--budget\n7"), []),
+        (lambda: (small.room / arguments).unlink(), ["two"]),
     ):
         change()
-        assert small.answer(*words) == (done(2, before), ran)
-    assert "2 of 2 jobs" in small.answer("--progress", *words)[0].told.splitlines()[-1]
+        assert small.answer(*words) == (DONE, ran)
 
 
 def test_decks_of_one_name(small: Folder) -> None:
     own, other = "decks/two.deck", "others/two.deck"
-    assert small.answer(JOBS, own) == (done(1), ["two"])
+    assert small.answer(JOBS, own) == (DONE, ["two"])
     for given in ((own, other), (other,)):
         told = small.refusal(JOBS, *given)
         assert own in told and other in told
-    assert small.answer(JOBS, own, "decks/../decks/two.deck") == (done(1, 1), [])
+    assert small.answer(JOBS, own, "decks/../decks/two.deck") == (DONE, [])
     (small.room / own).unlink()
-    assert small.answer(JOBS, other) == (done(1), ["two"])
+    assert small.answer(JOBS, other) == (DONE, ["two"])
 
 
 def waits_for_lock(process: int) -> bool:
-    """Whether a worker of a call waits for a lock."""
+    """Whether a call waits for a lock."""
     children = Path(f"/proc/{process}/task/{process}/children").read_text(encoding="ascii").split()
     locks = Path("/proc/locks").read_text(encoding="ascii").splitlines()
     return any(line.split()[5] in children for line in locks if "->" in line)
 
 
 def test_two_calls_at_once(small: Folder) -> None:
-    """Both know that the other runs a deck before that ends."""
+    """The second call has the deck that the first one runs before that run ends."""
     small.notes.write_bytes(b"")
-    words = ("--jobs", "2", JOBS, "decks/wait.deck", ONE)
+    words = (JOBS, "decks/wait.deck", ONE)
     with small.call(*words) as first:
-        small.begun(2)
+        small.begun(1)
         with small.call(*words) as second:
             wait_until(lambda: waits_for_lock(second.pid), "the second call to wait for the first")
             small.go.touch()
             ends = [(*finish(it, "a call"), it.returncode) for it in (first, second)]
-    assert ends == [(done(2).printed, "", 0), (done(2, 2).printed, "", 0)]
+    assert ends == [("", "", 0)] * 2
     assert (small.noted(), small.kept("wait", "dump")) == (["one", "wait"], b"P begun\nLOG ended\n")
 
 
@@ -267,13 +259,13 @@ def stopped(small: Folder, stop: Any, number: int) -> Ended:
     return Ended(process.returncode, printed, told)
 
 
-@pytest.mark.parametrize("stop, before", [(os.killpg, 0), (os.kill, 1)])
-def test_killed_call(small: Folder, stop: Any, before: int) -> None:
-    """A call is killed with its worker, or alone: then the worker comes to its end."""
+@pytest.mark.parametrize("stop", (os.killpg, os.kill))
+def test_killed_call(small: Folder, stop: Any) -> None:
+    """A call is killed with its run, or alone."""
     stopped(small, stop, signal.SIGKILL)
     assert small.files() == ["wait.dump.part", "wait.job"]
     small.go.touch()
-    assert small.answer(JOBS, "decks/wait.deck") == (done(1, before), [] if before else ["wait"])
+    assert small.answer(JOBS, "decks/wait.deck") == (DONE, ["wait"])
     assert small.files() == ["wait.dump", "wait.job", "wait.status"]
 
 
@@ -288,13 +280,23 @@ def test_full_disk(small: Folder) -> None:
     came, _ = small.answer(JOBS, ONE, preexec_fn=lambda: resource.setrlimit(resource.RLIMIT_FSIZE, (0, 0)))
     assert (came.status, came.printed, came.told.count("\n")) == (255, "", 1)
     assert small.files() == ["one.job"]
-    assert small.answer(JOBS, ONE) == (done(1), ["one"])
+    assert small.answer(JOBS, ONE) == (DONE, ["one"])
+
+
+@pytest.mark.parametrize("kibibytes", range(2600, 4000, 200))
+def test_little_memory(small: Folder, kibibytes: int) -> None:
+    """Any command of the script may lack memory. Then the job isn't done, and the next call does it."""
+    most = 1024 * kibibytes
+    came, _ = small.answer(JOBS, ONE, preexec_fn=lambda: resource.setrlimit(resource.RLIMIT_AS, (most, most)))
+    assert came == DONE or (came.status in (1, 255) and came.told), came
+    assert small.kept("one", "status") == (None if came.status else b"0\n")
+    assert small.answer(JOBS, ONE)[0] == DONE and small.kept("one", "dump") == b"P begun\nLOG ended\n"
 
 
 def test_other_programs(small: Folder) -> None:
     for script, ran in ((SCRIPT, ["one"]), (SCRIPT, []), (f"{SCRIPT}# changed\n", ["one"]), (SCRIPT, ["one"])):
         small.write("program", script)
-        assert small.answer(JOBS, ONE) == (done(1, 0 if ran else 1), ran)
+        assert small.answer(JOBS, ONE) == (DONE, ran)
 
 
 @pytest.mark.parametrize("status, line", [(0, "prints no dump"), (1, "tells no fault")])
@@ -318,7 +320,7 @@ def test_file_of_others(small: Folder, ending: str, is_link: bool) -> None:
     small.refusal(JOBS, ONE)
     assert file.is_symlink() and not away.exists() if is_link else file.read_bytes() == b"mine"
     file.unlink()
-    assert small.answer(JOBS, ONE) == (done(1), ["one"])
+    assert small.answer(JOBS, ONE) == (DONE, ["one"])
 
 
 def test_tasks_of_slurm(small: Folder) -> None:

@@ -83,10 +83,11 @@ TOOLS = (
     "assemble", "beside", "compare", "completions", "conformance", "explore", "gallery", "image", "operate",
     "random-deck", "run-jobs", "schedule", "timeline", "trace",
 )
-# The parts of the package that these tools use, besides their own modules in `commands`.
+# The tools that are shell scripts, and have no module.
+OF_SHELL = ("run-jobs",)
+# The parts of the package that the other tools use, besides their own modules in `commands`.
 PACKAGES = (
-    ".", "asking", "assembling", "comparing", "drawing", "installing", "many_jobs", "operating", "random_decks",
-    "shared", "timing",
+    ".", "asking", "assembling", "comparing", "drawing", "installing", "operating", "random_decks", "shared", "timing",
 )
 # What isn't installed with `--without` and its name, and what an archive never has: files for fixed folders.
 PARTS = ("completions", "library", "pages", "program", "tools")
@@ -164,7 +165,7 @@ def documents(*patterns: str) -> Iterator[Piece]:
 
 def tool_pieces() -> Iterator[Piece]:
     """The tools beside what they read, a command for each, and the library that they ask, with its declarations."""
-    modules = ("__init__", *(name.replace("-", "_") for name in TOOLS))
+    modules = ("__init__", *(name.replace("-", "_") for name in TOOLS if name not in OF_SHELL))
     yield from documents(*(f"tools/{name}" for name in TOOLS), *(f"tools/cdc6600/{name}/*.*" for name in PACKAGES))
     yield from documents(*(f"tools/cdc6600/commands/{name}.py" for name in modules))
     yield from documents(*READ_BY_TOOLS, "crates/embedding/examples/cdc6600.py")

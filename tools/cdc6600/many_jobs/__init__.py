@@ -1,1 +1,0 @@
-"""The runs and results of many decks, for `tools/run-jobs`."""
