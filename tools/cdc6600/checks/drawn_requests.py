@@ -1,6 +1,5 @@
 """Decks of tools/random-deck, some of them with further requests for exchanges, which are drawn too."""
 
-import re
 from dataclasses import dataclass
 from functools import cached_property
 
@@ -27,18 +26,18 @@ class Request:
     package: int
     after: int | None
 
-    def __str__(self):
+    def __str__(self) -> str:
         return f"ask {self.package:o} free" if self.is_free else f"ask {self.package:o} after {self.after}"
 
     @property
-    def is_free(self):
+    def is_free(self) -> bool:
         """Whether it may be made at any time."""
         return self.after is None
 
     @classmethod
-    def read(cls, line):
+    def read(cls, line: str) -> "Request":
         """Reads the line of a deck."""
-        package, after = re.fullmatch(r"ask ([0-7]+) after (\d+)", line).groups()
+        _, package, _, after = line.split(" ")
         return cls(int(package, 8), int(after))
 
 
@@ -47,26 +46,26 @@ class RequestingDeck:
     """A deck: the size of its memory, the lines that place its words, its first package and its requests."""
 
     size: int
-    placing: tuple
+    placing: tuple[str, ...]
     start: int
-    requests: tuple
+    requests: tuple[Request, ...]
 
     @classmethod
-    def drawn(cls, seed):
+    def drawn(cls, seed: int) -> "RequestingDeck":
         """The deck of a seed."""
         draws = Draws(f"sequential {seed}")
         deck = cls.read(drawn_deck(seed))
         return deck.with_more(draws) if draws.chance(MORE) else deck
 
     @classmethod
-    def read(cls, text):
+    def read(cls, text: str) -> "RequestingDeck":
         """Reads a drawn deck."""
         lines = text.splitlines()
         first = next(number for number, line in enumerate(lines) if line.startswith("start "))
         requests = tuple(Request.read(line) for line in lines[first:] if line.startswith("ask "))
         return cls(int(lines[0].split()[1]), tuple(lines[1:first]), int(lines[first].split()[1], 8), requests)
 
-    def with_more(self, draws):
+    def with_more(self, draws: Draws) -> "RequestingDeck":
         """The deck with further requests, and with a second package for its first program, behind its memory: so any
         program may be begun anew."""
         requests, placing, again = list(self.requests), list(self.placing), self.size
@@ -83,7 +82,7 @@ class RequestingDeck:
         return RequestingDeck(self.size + PACKAGE_WORDS, tuple(placing), self.start, tuple(requests))
 
     @cached_property
-    def text(self):
+    def text(self) -> bytes:
         """The deck as it is given to the program. Its dump has the whole memory."""
         asks = map(str, self.requests)
         show = f"show 0 {self.size - 1:o}"
@@ -91,27 +90,27 @@ class RequestingDeck:
         return "\n".join(lines).encode()
 
     @property
-    def has_free(self):
+    def has_free(self) -> bool:
         """Whether a request may be made at any time."""
         return any(it.is_free for it in self.requests)
 
     @property
-    def bound(self):
+    def bound(self) -> "RequestingDeck":
         """The deck whose free requests come after no instruction, and last among its requests."""
         after = [it for it in self.requests if not it.is_free]
         free = [Request(it.package, 0) for it in self.requests if it.is_free]
         return RequestingDeck(self.size, self.placing, self.start, (*after, *free))
 
     @property
-    def in_order(self):
+    def in_order(self) -> list[Request]:
         """All requests in the order in which a run with `--sequential` makes them, that for the first package too: each
         with a number of instructions."""
-        return sorted((Request(self.start, 0), *self.bound.requests), key=lambda it: it.after)
+        return sorted((Request(self.start, 0), *self.bound.requests), key=lambda it: it.after or 0)
 
-    def budget(self, seed):
+    def budget(self, seed: int) -> int:
         """The budget that is drawn for it: any one, or one that ends soon after a request is due."""
         draws = Draws(f"budget {seed}")
-        due = [it.after for it in self.requests if not it.is_free and 0 < it.after < MOST_BUDGET - max(SOON)]
+        due = [it.after for it in self.requests if it.after and it.after < MOST_BUDGET - max(SOON)]
         if due and draws.chance(0.5):
             return draws.one_of(due) + draws.between(*SOON)
         return draws.between(1, MOST_BUDGET)

@@ -8,8 +8,10 @@ with the event that was made. The registers that an instruction writes are read 
 
 import re
 from dataclasses import dataclass, field
+from typing import Iterable
 
 from cdc6600.limits import BANKS
+from cdc6600.shared.program import Program
 
 UNITS = (
     "branch", "boolean", "shift", "add", "longadd", "multiply1", "multiply2", "divide", "increment1", "increment2"
@@ -24,7 +26,7 @@ TRIED = (
 NOTHING = "E15 nothing"
 
 
-def written_by(parcel):
+def written_by(parcel: str) -> list[str]:
     """The registers that the instruction with this first parcel writes, five octal digits; the last one of a load is
     written when it returns."""
     code, number = parcel[:2], parcel[2]
@@ -40,22 +42,22 @@ def written_by(parcel):
 class Parts:
     """What the parts have, by the number of a reservation, after an event."""
 
-    units: dict = field(default_factory=dict)
-    places: dict = field(default_factory=dict)
-    channels: dict = field(default_factory=dict)
-    banks: dict = field(default_factory=dict)
-    registers: dict = field(default_factory=dict)
+    units: dict[str, tuple[int, str]] = field(default_factory=dict)
+    places: dict[int, int] = field(default_factory=dict)
+    channels: dict[int, tuple[int, bool]] = field(default_factory=dict)
+    banks: dict[int, int] = field(default_factory=dict)
+    registers: dict[str, int] = field(default_factory=dict)
     asked: str = ""
 
 
 class SecondReading:
     """The parts of a machine after each event of a session."""
 
-    def __init__(self, program, deck):
-        self.program, self.deck, self.events = program, deck, []
-        self.parts, self.log, self.writes, self.at_work = Parts(), "none", {}, set()
+    def __init__(self, program: Program, deck: str) -> None:
+        self.program, self.deck, self.events = program, deck, list[str]()
+        self.parts, self.log, self.writes, self.at_work = Parts(), "none", dict[int, list[str]](), set[str]()
 
-    def read(self, event, answer):
+    def read(self, event: str, answer: str) -> Parts:
         """Reads an event more, with its answer; the parts after it."""
         kind, *fields = event.split(" ")
         before = self.log
@@ -72,7 +74,7 @@ class SecondReading:
         }
         return self.parts
 
-    def probe(self):
+    def probe(self) -> set[str]:
         """The events that find their part at work. It reads the log, too."""
         text = self.deck + "".join(f"{event}\n" for event in [*self.events, *TRIED, "end"])
         printed = self.program.run(["events"], text.encode("latin-1")).printed.decode("latin-1").splitlines()
@@ -80,11 +82,11 @@ class SecondReading:
         answers = printed[len(self.events) : len(self.events) + len(TRIED)]
         return {event for event, answer in zip(TRIED, answers) if answer != NOTHING}
 
-    def phase(self, unit):
+    def phase(self, unit: str) -> str:
         """How far a unit is: by the first event that it can make."""
         return next((phase for event, phase in PHASES.items() if f"{event} {unit}" in self.at_work), "free")
 
-    def change(self, kind, fields, answered, log, found):
+    def change(self, kind: str, fields: list[str], answered: list[str], log: str, found: Iterable[str]) -> None:
         """An event that was made, with the log before it and what was found at work that wasn't before."""
         parts = self.parts
         if kind == "issue" and answered:
@@ -103,7 +105,7 @@ class SecondReading:
         elif kind in ("ask", "exchange"):
             parts.asked = f"{int(fields[0], 8):o}" if fields else ""
 
-    def stored(self, unit, found):
+    def stored(self, unit: str, found: Iterable[str]) -> None:
         """A unit has stored. An instruction that writes an A register and an X register is a load."""
         row, _ = self.parts.units.pop(unit)
         for register in self.writes[row][:1]:
@@ -112,13 +114,13 @@ class SecondReading:
             self.parts.channels[int(register[1])] = (row, False)
         self.parts.places.update({int(it[7:]): row for it in found if it.startswith("accept ")})
 
-    def parcel(self, log):
+    def parcel(self, log: str) -> str:
         """The parcel that is issued next after a log."""
-        size = int(re.match(r"core (\d+)", self.deck)[1])
+        size = int(self.deck.split("\n", maxsplit=1)[0].split(" ")[1])
         lines = [line for line in self.deck.split("\n") if not line.startswith("show ")]
         text = "\n".join(lines[: lines.index("end")] + [f"show 0 {size - 1:o}", "end", ""])
         dump = self.program.replay(log, text.encode("latin-1")).printed.decode("latin-1").splitlines()
-        place, parcel, word = re.fullmatch(r"P (\d+) PARCEL (\d) HELD (\w+)", dump[0]).groups()
+        _, place, _, parcel, _, word = dump[0].split(" ")
         if word == "none":
             address = int(place, 8) + int(dump[2].split(" ")[1], 8)
             word = next(line for line in dump if line.startswith(f"M {address:06o}"))[9:]

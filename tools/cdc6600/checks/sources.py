@@ -49,7 +49,9 @@ def each_text() -> list[str]:
              for row in ROWS.values() for turn in range(TURNS)]
     for listing in (it.listing.decode() for it in decks() if it.listing):
         for line in listing.splitlines():
-            found += [text for text in LISTED.fullmatch(line)[3].split("; ") if not text.startswith("?")]
+            listed = LISTED.fullmatch(line)
+            assert listed, line
+            found += [text for text in listed[3].split("; ") if not text.startswith("?")]
     return list(dict.fromkeys(found))
 
 

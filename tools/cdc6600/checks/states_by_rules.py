@@ -8,10 +8,12 @@ halted or faulted. It asks no machine that is kept: what such a machine tells is
 import copy
 from dataclasses import dataclass, field
 from functools import lru_cache
+from typing import Iterable, Iterator, Sequence
 
 from cdc6600.drawing import following
-from cdc6600.drawing.following import DUMP_LINES, WORDS, Fault, Log, plain
+from cdc6600.drawing.following import DUMP_LINES, WORDS, Fault, Log, Session, plain
 from cdc6600.limits import BANKS
+from cdc6600.shared.program import Program
 
 from .texts_by_rules import LINK, LOADED, results_of, stores
 
@@ -28,37 +30,38 @@ PASS = "46000"
 class Replays(following.Replays):
     """What the program prints for the session's deck and a log, and the texts of instructions."""
 
-    def field(self, log, line, place):
+    def field(self, log: str, line: int, place: int) -> str:
         """A field of a line of the dump after a log, both numbered from 0."""
         return self.dump(log)[line].split()[place]
 
     @lru_cache(maxsize=None)
-    def values(self, log):
+    def values(self, log: str) -> dict[str, str]:
         """The digits of the registers after a log, by their names, and of the words that the deck shows, by their
         addresses in six digits: of the first ones of them."""
         dump = self.dump(log)
         values = {f"{kind}{number}": digits for kind, line in (("A", dump[3]), ("B", dump[4]))
                   for number, digits in enumerate(line.split()[1:])}
-        values |= dict(line.split() for line in dump[5 : DUMP_LINES - 1])
-        return values | dict(line.split()[1:] for line in dump[DUMP_LINES - 1 : -1][:WORDS])
+        pairs = [line.split() for line in dump[5 : DUMP_LINES - 1]]
+        pairs += [line.split()[1:] for line in dump[DUMP_LINES - 1 : -1][:WORDS]]
+        return values | {name: digits for name, digits in pairs}
 
-    def halt(self, log):
+    def halt(self, log: str) -> str:
         """How the machine is halted after a log, or `running`."""
         return self.dump(log)[1].removeprefix("HALT ").split(" FAULT ")[0]
 
     @lru_cache(maxsize=None)
-    def word(self, log, address):
+    def word(self, log: str, address: str) -> str:
         """A word of memory after a log, as its digits."""
         lines = [*self.session.deck, f"show {address} {address}", "end", ""]
         return self.program.replay(log, "\n".join(lines).encode("latin-1")).printed.decode().splitlines()[-2][9:]
 
-    def absolute(self, log, address):
+    def absolute(self, log: str, address: int) -> int | None:
         """The absolute address that an address has after a log, or none where it is out of range."""
         absolute = address + self.number(log, 2, 1)
         return absolute if address < self.number(log, 2, 3) and absolute < self.session.core else None
 
     @lru_cache(maxsize=None)
-    def instruction(self, log):
+    def instruction(self, log: str) -> str | None:
         """The text of the instruction that is issued next after a log, as a listing has it, or none where its word
         would be fetched out of range."""
         word, parcel = self.field(log, 0, 5), int(self.field(log, 0, 3))
@@ -70,7 +73,7 @@ class Replays(following.Replays):
         return self.listed(PASS * parcel + word[5 * parcel :], parcel)
 
     @lru_cache(maxsize=None)
-    def listed(self, word, parcel):
+    def listed(self, word: str, parcel: int) -> str:
         """The text of the instruction at a parcel of a word, before which all parcels are passes."""
         ran = self.program.run(["list"], f"core 32\nword {word}\nstart 0\nend\n".encode())
         items = ran.printed.decode("latin-1").split("\n", maxsplit=1)[0][28:].split("; ")
@@ -83,10 +86,11 @@ class Reservation:
     """An issued instruction: its unit and text, the logs up to it without and with it, and its part in memory. Its
     address is the absolute one, or none where it makes no reference in range."""
 
-    def __init__(self, unit, text, replays, before, after):
+    def __init__(self, unit: str, text: str, replays: Replays, before: str, after: str) -> None:
         loaded = LOADED.match(text)
         self.unit, self.text, self.before, self.after = unit, text, before, after
-        self.channel, self.address = int(loaded[1]) if loaded else 0, None
+        self.channel = int(loaded[1]) if loaded else 0
+        self.address: int | None = None
         self.refers = self.channel > 0 or stores(text)
         if self.refers:
             is_link = text.startswith(LINK)
@@ -103,33 +107,33 @@ class State:
     A load has its channel from its store event on; in `loaded` are those whose word is there. In `fault` is the
     reservation that set the fault flag, and in `asked` the package of an exchange that is asked for."""
 
-    units: dict = field(default_factory=dict)
-    phases: dict = field(default_factory=dict)
-    places: dict = field(default_factory=dict)
-    channels: dict = field(default_factory=dict)
-    loaded: set = field(default_factory=set)
-    banks: dict = field(default_factory=dict)
-    registers: dict = field(default_factory=dict)
+    units: dict[str, int] = field(default_factory=dict)
+    phases: dict[int, str] = field(default_factory=dict)
+    places: dict[int, int] = field(default_factory=dict)
+    channels: dict[int, int] = field(default_factory=dict)
+    loaded: set[int] = field(default_factory=set)
+    banks: dict[int, int] = field(default_factory=dict)
+    registers: dict[str, int] = field(default_factory=dict)
     asked: str = ""
     fault: int = 0
     halt: str = STOPPED
 
     @property
-    def pending(self):
+    def pending(self) -> list[int]:
         """The reservations that have an effect still to come, for E18, oldest first."""
         return sorted({*self.units.values(), *self.places.values(), *self.channels.values()})
 
     @property
-    def free_place(self):
+    def free_place(self) -> int | None:
         """The lowest place of the hopper that is empty, or none, for E11."""
         return next((place for place in range(PLACES) if place not in self.places), None)
 
-    def about(self, kind, field_):
+    def about(self, kind: str, field_: str) -> int:
         """The reservation that an event is about, or 0."""
         parts = {"accept": self.places, "return": self.channels}
         return parts[kind].get(int(field_), 0) if kind in parts else self.units.get(field_, 0)
 
-    def change(self, kind, fields, reading):
+    def change(self, kind: str, fields: Sequence[str], reading: "Reading") -> None:
         """An event of the machine itself: a request, an exchange, an issue without a unit, a bank that is freed."""
         if kind == "ask":
             self.asked = plain(fields[0])
@@ -140,7 +144,7 @@ class State:
         elif kind == "bank":
             del self.banks[int(fields[0])]
 
-    def move(self, row, kind, reading):
+    def move(self, row: int, kind: str, reading: "Reading") -> None:
         """An event of a reservation."""
         it = reading.rows[row]
         if kind in PHASES:
@@ -157,35 +161,37 @@ class State:
             self.store(row, it)
             self.record_fault(row, it, reading)
 
-    def store(self, row, it):
+    def store(self, row: int, it: Reservation) -> None:
         """A unit stores: what a load brings is still to come."""
         del self.units[it.unit], self.phases[row]
         self.write(results_of(it.text)[: 1 if it.channel else None])
         if it.channel:
             self.channels[it.channel] = row
-        if it.address is not None:
-            self.places[self.free_place] = row
+        place = self.free_place
+        if it.address is not None and place is not None:
+            self.places[place] = row
         elif it.channel:
             self.loaded.add(row)
 
-    def record_fault(self, row, it, reading):
+    def record_fault(self, row: int, it: Reservation, reading: "Reading") -> None:
         """The store event of a reference out of range sets the fault flag, where exit mode says so."""
         if it.refers and it.address is None and reading.replays.number(it.after, 2, 5) & ADDRESS_MODE:
             self.fault = self.fault or row
 
-    def accept(self, row, it):
+    def accept(self, row: int, it: Reservation) -> None:
         """A bank takes the reference of a reservation."""
         self.places = {place: other for place, other in self.places.items() if other != row}
-        self.banks[it.address % BANKS] = row  # E13
+        if it.address is not None:
+            self.banks[it.address % BANKS] = row  # E13
         if it.channel:
             self.loaded.add(row)
 
-    def write(self, registers):
+    def write(self, registers: Iterable[str]) -> None:
         """Results are no longer still to come."""
         for register in registers:
             self.registers.pop(register, None)
 
-    def drain(self, reading):
+    def drain(self, reading: "Reading") -> None:
         """All that is pending is carried out, oldest first: each reference in range makes its bank busy."""
         for row in self.pending:
             it = reading.rows[row]
@@ -200,11 +206,11 @@ class State:
 class Reading:
     """A session as it is read: its reservations, and the log and the state after the events that were read."""
 
-    def __init__(self, program, session):
+    def __init__(self, program: Program, session: Session) -> None:
         self.session, self.replays = session, Replays(program, session, session.file)
-        self.rows, self.log, self.state = [None], Log(), State()
+        self.rows, self.log, self.state = [Reservation("", "", self.replays, "", "")], Log(), State()
 
-    def read(self, event, answer):
+    def read(self, event: str, answer: str) -> None:
         """Reads an event with its answer."""
         kind, *fields = event.split(" ")
         if kind == "end" or answer.startswith("E"):
@@ -213,14 +219,14 @@ class Reading:
         if kind == "drain":
             state.drain(self)
         else:
-            row = self.logged(kind, fields, answer) or (fields and state.about(kind, fields[0]))
+            row = self.logged(kind, fields, answer) or (state.about(kind, fields[0]) if fields else 0)
             if row:
                 state.move(row, kind, self)
             else:
                 state.change(kind, fields, self)
         self.state = state
 
-    def logged(self, kind, fields, answer):
+    def logged(self, kind: str, fields: Sequence[str], answer: str) -> int:
         """Logs an event, if it is logged; the reservation that it makes, or none."""
         before = self.log.text
         if kind == "exchange":
@@ -230,13 +236,13 @@ class Reading:
         elif kind == "issue":
             self.log.add_instruction()
             if answer != "ok":
-                text = self.replays.instruction(before)
+                text = self.replays.instruction(before) or ""
                 self.rows.append(Reservation(answer.split(" ")[1], text, self.replays, before, self.log.text))
                 return len(self.rows) - 1
         return 0
 
 
-def readings_of(program, session, answers):
+def readings_of(program: Program, session: Session, answers: Iterable[str]) -> Iterator[Reading]:
     """A reading of a session before its first event, and after each one."""
     reading = Reading(program, session)
     yield reading

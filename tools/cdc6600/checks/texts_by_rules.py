@@ -20,7 +20,7 @@ RESULT = re.compile(r"[A-Z]([ABX][0-7]) ")
 LOADED, STORED, LINK = re.compile(r"SA([1-5]) "), re.compile(r"SA[67] |RJ "), "RJ "
 
 
-def kind_of(text):
+def kind_of(text: str) -> str | None:
     """The kind of unit that an instruction takes, or none."""
     found = instruction(text)
     if not found or found.row.unit == NO_UNIT:
@@ -28,19 +28,19 @@ def kind_of(text):
     return found.row.unit.lower().replace(" ", "")
 
 
-def results_of(text):
+def results_of(text: str) -> list[str]:
     """The registers that an instruction writes. B0 is none; a load has two, the last of which comes by its return."""
     written, loaded = RESULT.match(text), LOADED.match(text)
-    found = [it for it in (written and written[1], loaded and f"X{loaded[1]}") if it]
+    found = [*([written[1]] if written else []), *([f"X{loaded[1]}"] if loaded else [])]
     return [register for register in found if register != "B0"]
 
 
-def operands_of(text):
+def operands_of(text: str) -> list[str]:
     """The registers whose values an instruction uses, in the order in which they count, each once. B0 is none."""
     found = instruction(text)
     return found.operands if found else []
 
 
-def stores(text):
+def stores(text: str) -> bool:
     """Whether an instruction stores a word of memory: its X register, or the link word of a return jump."""
     return bool(STORED.match(text))
