@@ -229,7 +229,8 @@ def test_table(tmp_path: Path, name: str) -> None:
     wanted = [tuple(line.split("|")) for line in TABLES[name].strip("\n").split("\n")]
     assert [*cells_of(printed("timeline", "--table", *options, file))] == wanted
     named = [(number, text, NAMES[unit], *others) for number, text, unit, *others in wanted]
-    pages = [["--html", *options, file], *[["--html", "--compare", file, file]] * bool(options)]
+    pages: list[list[str | Path]] = [["--html", *options, file]]
+    pages += [["--html", "--compare", file, file]] * bool(options)
     for times, words in enumerate(pages, 1):
         found = ROW.findall(printed("timeline", *words))
         assert [(number, *re.findall(TD, cells)) for number, cells in found] == named * times

@@ -48,7 +48,7 @@ SHOWN = ("", "LOG E40 I3\n", "LOG E40 I4\n", "LOG E40 I4\n", "E9 operand awaited
 # The commands, and the one that prints help texts.
 COMMANDS, HELPING = ("run", "replay", "events", "list"), "help"
 # What the script for bash makes of words, the last of which is typed in part.
-COMPLETED = (
+COMPLETED: tuple[tuple[tuple[str, ...], list[str]], ...] = (
     (("",), ["run", "replay", "events", "list", "help", "-h", "--help", "-V", "--version"]),
     (("help", "r"), ["run", "replay"]),
     (("r",), ["run", "replay"]),

@@ -98,7 +98,7 @@ do
 done | "%s" events
 """
 # The words of a call, further variables, the terminal's size, and what is told.
-REFUSED = (
+REFUSED: tuple[tuple[list[str], dict[str, str], tuple[int, int], str], ...] = (
     (["/nowhere"], {}, SIZE, "/nowhere: No such file or directory"),
     ([str(deck("refused").file)], {}, SIZE, r".*refused\.deck: E20 line 4: range"),
     ([FILE], {}, (20, 70), "the terminal: 70 columns and 20 lines; it takes 80 and 24, or --plain"),
