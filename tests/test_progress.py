@@ -19,19 +19,17 @@ from __future__ import annotations
 import os
 import re
 import signal
-import termios
 import time
 from concurrent.futures import Future, ThreadPoolExecutor
 from dataclasses import dataclass
-from io import BytesIO
 from pathlib import Path
 from threading import Barrier
 from typing import Iterator
 
 import pexpect
-import pyte
 import pytest
 from running import Runner
+from terminal import Terminal
 
 from cdc6600.shared.decks import FIRST, deck, session
 from cdc6600.shared.waiting import MINUTES, wait_until
@@ -45,8 +43,8 @@ SHOWN = re.compile(rb"(?:%s)+(\x1b\[K|\^C|)" % LINE)
 # The second that is waited for, and the seconds before which nothing may be shown: the clocks of the program and of
 # this test may differ a little.
 AWAITED, QUIET = 6, 2.9
-# The lines and columns of a terminal, at first and after the third second.
-SIZE, NARROW = (24, 80), (10, 40)
+# The lines and columns of a terminal after the third second.
+NARROW = 10, 40
 
 
 @dataclass(frozen=True)
@@ -79,25 +77,17 @@ class Run:
     seconds begin before the run."""
 
     def __init__(self, program: Runner, case: Case, folder: Path) -> None:
-        self.case, self.told, self.log, self.first = case, folder / "told", BytesIO(), QUIET
+        self.case, self.told, self.first = case, folder / "told", QUIET
         os.mkfifo(folder / "deck")
         self.deck, self.begun = os.open(folder / "deck", os.O_RDWR), time.monotonic()
-        self.terminal = pexpect.spawn(
-            "sh", ["-c", f"exec {program.path} {case.words} {case.streams}"], cwd=folder, dimensions=SIZE,
-            echo="deck" in case.streams, env={**os.environ, "TERM": "xterm"}, timeout=60 * MINUTES,
-        )
-        self.terminal.logfile_read, self.before = self.log, self.settings
+        command = f"exec {program.path} {case.words} {case.streams}"
+        self.terminal = Terminal("sh", "-c", command, cwd=folder, echo="deck" in case.streams)
         self.give(case.text)
-
-    @property
-    def settings(self) -> list:
-        """The settings of its terminal."""
-        return termios.tcgetattr(self.terminal.fileno())
 
     @property
     def shown(self) -> bytes:
         """What it has shown."""
-        return self.log.getvalue() + (self.told.read_bytes() if self.told.exists() else b"")
+        return self.terminal.written + (self.told.read_bytes() if self.told.exists() else b"")
 
     def give(self, text: bytes) -> None:
         """Gives it a text, by its terminal if the deck is typed or interrupted."""
@@ -118,7 +108,7 @@ class Run:
         if self.case.end:
             self.give(self.case.end)
             self.terminal.expect_exact(pexpect.EOF)
-        self.after = self.settings
+        self.after = self.terminal.settings
         self.terminal.close(force=True)
         os.close(self.deck)
         return self
@@ -141,12 +131,10 @@ def test_run(runs: dict[str, "Future[Run]"], name: str, case: Case) -> None:
     # A run that issues all the time may end before it has to show something.
     assert SHOWN.fullmatch(shown) if case.is_shown and (case.end or shown or status is None) else not shown, shown
     assert seconds == [*range(3, 3 + len(seconds))] and run.first >= QUIET
-    screen = pyte.Screen(*reversed(NARROW))
-    pyte.ByteStream(screen).feed(shown)
     is_left = seconds and case.end != LAST_LINE and not shown.endswith(CLEARED)
     left = f"{'^C' if case.end == INTERRUPT else '  '} cdc6600: {seconds[-1]} s" if is_left else ""
-    assert [line.rstrip() for line in screen.display] == [left, *[""] * (screen.lines - 1)]
-    assert run.after == run.before
+    assert run.terminal.lines == [left, *[""] * (len(run.terminal.lines) - 1)]
+    assert run.after == run.terminal.settings_before
     ended = {LAST_LINE: (0, None), INTERRUPT: (None, signal.SIGINT)}
     assert not case.end or (status, run.terminal.signalstatus) == ended[case.end]
 

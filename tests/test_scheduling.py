@@ -24,7 +24,6 @@ from typing import Any, Sequence
 import pytest
 from running import Ended, Runner, called, text_of
 
-from cdc6600.checks.cycles import BANK, DECK
 from cdc6600.checks.judging_by_rules import Judge
 from cdc6600.checks.states_by_rules import readings_of
 from cdc6600.drawing.following import Session
@@ -36,6 +35,10 @@ from cdc6600.timing.times import DEFAULT, read_times
 from cdc6600.timing.waits import Account, Judged, account, faults_of
 
 BUDGET, TIMES = 500, read_times()
+DECK = "decks/two-adds.deck"
+# Two loads from a bank: addresses 1 and 41 with a reference address of 100.
+BANK = ("core 256\nat 41\nword 100000000000000\nword 100000000000000\nat 100\ncode SA1 B0+1; SA2 B0+41\ncode PS\n"
+        "start 40\nend\n")
 # The decks whose sessions are followed too.
 FOLLOWED = ("two-adds", "load-store", "subroutine", "store-into-code", "ask-mid-word")
 FAULTY = "decks/run/refused.deck"
