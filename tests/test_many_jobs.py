@@ -275,6 +275,14 @@ def test_interrupted_call(small: Folder) -> None:
     assert small.files() == ["wait.job"]
 
 
+@pytest.mark.parametrize("deck", ("decks/none.deck", "decks", "/dev/zero"))
+def test_no_deck(small: Folder, deck: str) -> None:
+    """The other deck is run."""
+    came, ran = small.answer(JOBS, deck, ONE)
+    assert came == Ended(1, "", f"tools/run-jobs: {deck} isn't done: it is no file that can be read\n")
+    assert (ran, small.kept("one", "status")) == (["one"], b"0\n")
+
+
 def test_full_disk(small: Folder) -> None:
     """No file may grow."""
     came, _ = small.answer(JOBS, ONE, preexec_fn=lambda: resource.setrlimit(resource.RLIMIT_FSIZE, (0, 0)))

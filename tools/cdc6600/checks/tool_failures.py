@@ -17,7 +17,7 @@ nine times. One with more events than a picture has room for is refused as a pic
 
 It says nothing if all is right, otherwise a line for each fault. CDC6600 may name the program to ask.
 
-Run it after a change of `tools/cdc6600/shared`, of `tools/cdc6600/many_jobs`, or of what starts processes or threads.
+Run it after a change of `tools/cdc6600/shared`, or of a tool that starts processes or threads.
 """
 
 import os
@@ -36,7 +36,7 @@ from typing import NamedTuple
 from cdc6600.assembling.sources import MOST_LINES
 from cdc6600.drawing.following import Following, Session
 from cdc6600.drawing.forms import MOST_COLUMNS, Form
-from cdc6600.shared.decks import FIRST, FOLDER, RUN, SESSIONS, session
+from cdc6600.shared.decks import FIRST, FOLDER, SESSIONS, session
 from cdc6600.shared.reading import MOST
 from cdc6600.shared.program import ROOT, Program, tell
 from cdc6600.shared.waiting import Missing, faults_found, finish, input_of, run
@@ -71,7 +71,7 @@ ENDLESS, TOO_LONG, ENOUGH_MEMORY = "/dev/zero", str(MOST), MOST + 2 * MOST_MEMOR
 ENDLESS_CALLS = (
     (1, "timeline", ENDLESS), (1, "timeline", SESSION, ENDLESS), (1, "beside", ENDLESS),
     (1, "timeline", "--cycles", "--times", ENDLESS, SESSION), (1, "schedule", ENDLESS), (1, "explore", ENDLESS),
-    (1, "operate", "--plain", ENDLESS), (1, "gallery", "none", ENDLESS), (1, "run-jobs", "none", ENDLESS),
+    (1, "operate", "--plain", ENDLESS), (1, "gallery", "none", ENDLESS),
     (1, "image", "pack", ENDLESS), (2, "assemble", ENDLESS), (2, "trace", ENDLESS), (2, "compare", "false", ENDLESS),
 )
 ENDLESS_INPUTS = (
@@ -116,8 +116,6 @@ def tools(folder):
     yield Tool("compare", (EMULATOR, DECK))
     yield Tool("operate", ("--plain", DECK), b"next\nundo\n")
     yield Tool("trace", (DECK,))
-    decks = (str(RUN / f"{name}.deck") for name in ("jump", "divide"))
-    yield Tool("run-jobs", ("--jobs", "3", f"{folder}/jobs", DECK, *decks))
     yield Tool("assemble", (SOURCE,))
     yield Tool("image", ("text", "-"), b"100 5\n")
 
