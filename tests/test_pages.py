@@ -25,7 +25,7 @@ from cdc6600.shared.program import ROOT
 from cdc6600.shared.waiting import Missing, finish
 
 PAGES = (
-    "docs/use/tutorial.md", "docs/use/tools.md", "docs/use/teaching.md", "docs/use/keepers.md",
+    "docs/use/tutorial.md", "docs/use/tools.md", "docs/use/teaching.md", "docs/use/keepers.md", "docs/use/emulators.md",
     "decks/pages/commands.md", "decks/pages/readme-commands.md",
 )
 README, OF_README = "README.md", "decks/pages/readme-commands.md"

@@ -4,7 +4,7 @@
 //! `plain LOG` reads a deck of `core`, `at`, `word`, `start`, `show` and `end` lines on standard input, goes
 //! through the log and prints the dump, as `cdc6600 replay LOG` does. It takes deck and log to be right, and
 //! panics where they aren't. bench/running takes its parts; tools/check emulators compares it as an emulator, and
-//! copies of it with the faults that tools/cdc6600/checks/planted.py puts in.
+//! copies of it with the faults of tests/planted_faults.txt and tests/planting.py.
 
 use std::fmt::Write;
 use std::io::Read;
