@@ -27,7 +27,7 @@ NAMES = (*SMALL, BODIES, *DECKS, *BUILDING)
 # The tests that run in several processes, and in how many at most.
 SHARED_OUT = dict.fromkeys(
     ("decks", "pages", "assembler", "sequential", "mutations", "failures", "trace", "many-jobs", "scheduling",
-     "exploring", "random-sessions"), 4
+     "exploring", "random-sessions", "browser", "driving"), 4
 )
 
 
