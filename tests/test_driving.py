@@ -29,7 +29,7 @@ from pathlib import Path
 from typing import Any, Iterator
 
 import pytest
-from browsing import SCHEMES, WIDE, View, Window, name_of, opened
+from browsing import SCHEMES, WIDE, View, name_of, opened
 from running import Runner
 
 from cdc6600.assembling.output import deck_of, listing_of
@@ -164,17 +164,20 @@ def test_sources(page: DrivingPage) -> None:
     assert page.see("assembled", given, SOURCE) == [assembled(it) for it in given]
 
 
-@pytest.mark.parametrize("window", WINDOWS, ids=name_of)
+@pytest.mark.parametrize("scheme", SCHEMES)
 @pytest.mark.parametrize("is_timed", (False, True), ids=("events", "cycles"))
-def test_look(page: DrivingPage, is_timed: bool, window: Window) -> None:
-    page.walk(len(DRAWN) - 1)
+def test_look(page: DrivingPage, is_timed: bool, scheme: str) -> None:
+    """The widest window is the first one. Chromium measures a heading that is out of sight by the window before, if it
+    is the first that is measured."""
     if is_timed:
         page.play(TIMED_EVENTS)
         page.see("showRows")
         page.see("timed")
-    for scheme in SCHEMES:
+    else:
+        page.walk(len(DRAWN) - 1)
+    for window in WINDOWS:
         page.browser.show_as(*window, scheme)
-        assert page.see("wide") + page.see("dim") + page.see("small") == []
+        assert page.see("wide") + page.see("dim") + page.see("small") == [], name_of(window)
 
 
 def test_keys(page: DrivingPage) -> None:
