@@ -107,7 +107,7 @@ class Machine(Calls):
     """A machine that is kept."""
 
     event, judge, next = (partialmethod(Calls.call, name) for name in ("event", "judge", "next"))
-    log, dump, free = (partialmethod(Calls.call, name) for name in ("log", "dump", "free"))
+    log, dump = (partialmethod(Calls.call, name) for name in ("log", "dump"))
 
     def __init__(self, node: Node) -> None:
         came = node.ask("make")
@@ -149,3 +149,6 @@ class Machine(Calls):
         """Words of memory, and the status."""
         came = self.node.ask("words", self.number, first, count)
         return [int(it) for it in came.get("words", ())], came.get("status")
+
+    def free(self) -> None:
+        self.node.ask(*self.of, "free")
