@@ -426,22 +426,20 @@ def faults_of_handles(make):
         return faults + differing("a freed machine", silent, machine.event(b"issue"))
 
 
-WITH_LATER_READER = Unstored("a result with a later reader", LATER_READER)
-# What is tried of a machine without further decks or sessions.
-OF_MACHINE = (faults_of_arrival, faults_of_opcodes, faults_of_stopping, faults_of_moments, faults_of_lines,
-              faults_of_handles)
-
-
 def works(make, functions, decks, sessions):
     """All that is tried, each as a call that gives its faults."""
     for it in sessions:
         yield lambda it=it: faults_of_events(make, it)
         yield lambda it=it: faults_of_contents(make, functions, it)
-    yield lambda: faults_of_contents(make, functions, WITH_LATER_READER)
+    yield lambda: faults_of_contents(make, functions, Unstored("a result with a later reader", LATER_READER))
     for seed in SEEDS:
         yield lambda seed=seed: faults_of_contents(make, functions, drawn_session(make, seed))
     for it in decks:
         yield lambda it=it: faults_of_next(make, functions.events, it)
         yield lambda it=it: faults_of_advancing(make, it)
-    for work in OF_MACHINE:
-        yield lambda work=work: work(make)
+    yield lambda: faults_of_arrival(make)
+    yield lambda: faults_of_opcodes(make)
+    yield lambda: faults_of_stopping(make)
+    yield lambda: faults_of_moments(make)
+    yield lambda: faults_of_lines(make)
+    yield lambda: faults_of_handles(make)
