@@ -17,8 +17,7 @@ import sys
 import time
 from pathlib import Path
 
-from cdc6600.checks.browsers import installed
-from cdc6600.checks.driving_scripts import READY, START
+from cdc6600.checks.browsers import CLIENTS, why_left_out
 from cdc6600.driving.driving import NAME
 from cdc6600.module.files import BUILT
 from cdc6600.shared.decks import deck
@@ -27,6 +26,12 @@ from cdc6600.shared.waiting import wait_until
 WINDOW, FIRST, COUNT = (1280, 900), 1000, 100
 # The program of the deck `loop`, which begins again instead of its stop.
 ENDLESS = deck("loop").text.replace(b"code PS\n", b"code EQ B0,B0,0\n")
+READY = "return document.documentElement.dataset.ready || null;"
+# Starts a program.
+START = r"""
+document.getElementById("text").value = atob(arguments[0]);
+document.getElementById("start").click();
+"""
 # Makes events that are drawn, without showing them, and then shows the machine.
 MADE = r"""
 let [seed, count] = arguments;
@@ -88,7 +93,10 @@ def timed(browser, seed):
 def main():
     words = sys.argv[1:]
     runs, page = int(words[0]) if words else 10, Path(words[1]).resolve() if words[1:] else BUILT / NAME
-    for name, client in installed():
+    for name, client in CLIENTS.items():
+        if told := why_left_out(name):
+            print(f"{sys.argv[0]}: {told}", file=sys.stderr)
+            continue
         with client() as browser:
             browser.show_as(*WINDOW)
             seconds = opened(browser, page)

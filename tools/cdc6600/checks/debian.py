@@ -72,11 +72,9 @@ def missing(check: str) -> list[Needed]:
     """The lines of the programs for which the check of this name can't run. Of the browsers one is enough."""
     if check in IN_PARTS:
         return []
-    of_check = [it.program for it in needed() if it.is_for(check)]
-    if set(of_check) <= set(OF_BROWSERS):
-        lacking = [absent(programs) for programs in BROWSERS.values()]
-        return lacking[0] if of_check and all(lacking) else []
-    return absent(of_check)
+    of_check = {it.program for it in needed() if it.is_for(check)}
+    of_browsers = [absent(programs) for programs in BROWSERS.values() if of_check.issuperset(programs)]
+    return absent(of_check.difference(OF_BROWSERS)) + (of_browsers[0] if of_browsers and all(of_browsers) else [])
 
 
 def how_to_install(lines: Sequence[Needed]) -> str:
