@@ -18,6 +18,7 @@ import time
 from pathlib import Path
 
 from cdc6600.checks.browsers import CLIENTS, why_left_out
+from cdc6600.checks.web_driver import Browser
 from cdc6600.driving.driving import NAME
 from cdc6600.module.files import BUILT
 from cdc6600.shared.decks import deck
@@ -75,22 +76,22 @@ return (async () => {
 """
 
 
-def opened(browser, page):
+def opened(browser: Browser, page: Path) -> float:
     """Opens the page; the seconds until it is ready."""
     begun = time.perf_counter()
     browser.open(page.as_uri())
-    wait_until(lambda: browser.run(READY), "the page to be ready")
+    wait_until(lambda: bool(browser.run(READY)), "the page to be ready")
     return time.perf_counter() - begun
 
 
-def timed(browser, seed):
+def timed(browser: Browser, seed: int) -> list[float]:
     """The milliseconds of each event in a further session."""
     browser.run(START, base64.b64encode(ENDLESS).decode())
     browser.run(MADE, seed, FIRST)
-    return browser.run(TIMED, COUNT)
+    return list(browser.run(TIMED, COUNT))
 
 
-def main():
+def main() -> int:
     words = sys.argv[1:]
     runs, page = int(words[0]) if words else 10, Path(words[1]).resolve() if words[1:] else BUILT / NAME
     for name, client in CLIENTS.items():

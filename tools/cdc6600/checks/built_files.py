@@ -40,23 +40,23 @@ MADE_WITH = "made-with.txt"
 WRITING = "tools/check built-files --write"
 
 
-def lowering():
+def lowering() -> str:
     """The line by which `wasm-opt` says its version."""
-    return run([LOWERING, "--version"], capture_output=True, text=True).stdout.strip()
+    return str(run([LOWERING, "--version"], capture_output=True, text=True).stdout).strip()
 
 
-def made_with():
+def made_with() -> bytes:
     """What made-with.txt has of a module that is made now."""
     return f"{kit_name()}\n{lowering()}\n".encode()
 
 
-def stored(name):
+def stored(name: str) -> bytes:
     """What a file of docs/try has, or nothing if it isn't there."""
     file = BUILT / name
     return file.read_bytes() if file.is_file() else b""
 
 
-def why_left_out():
+def why_left_out() -> str:
     """Why the module can't be compared, or nothing if it can."""
     for program in ("rt", LOWERING):
         if not shutil.which(program):
@@ -66,7 +66,7 @@ def why_left_out():
     return others[0] if others else ""
 
 
-def module():
+def module() -> bytes:
     """The module with 32-bit addresses that tools/build-module makes, or has made in the folder CDC6600_MODULE."""
     with tempfile.TemporaryDirectory() as room:
         folder = Path(os.environ.get("CDC6600_MODULE") or room)
@@ -75,7 +75,7 @@ def module():
         return (folder / NARROW).read_bytes()
 
 
-def fault_of(name, wanted):
+def fault_of(name: str, wanted: bytes) -> list[str]:
     """A line if a file of docs/try hasn't what it should have."""
     came, path = stored(name), (BUILT / name).relative_to(ROOT)
     if came == wanted:
@@ -83,7 +83,7 @@ def fault_of(name, wanted):
     return [f"{path} {'differs from what is made now' if came else 'is missing'}: run {WRITING}"]
 
 
-def compared():
+def compared() -> list[str]:
     """The lines of all faults."""
     found = [it for name, text in calls().items() for it in fault_of(name, text)]
     found += fault_of(NAME, page_with(stored(NARROW)))
@@ -94,7 +94,7 @@ def compared():
     return found + fault_of(NARROW, module()) + fault_of(MADE_WITH, made_with())
 
 
-def write():
+def write() -> int:
     """Makes all files, and writes them."""
     if lacking := absent((LOWERING,)):
         raise Missing(f"{LOWERING} missing: {how_to_install(lacking)}")
@@ -106,11 +106,11 @@ def write():
     return 0
 
 
-def work():
+def work() -> int:
     if sys.argv[1:] == ["--write"]:
         return write()
     return tell(compared())
 
 
-def main():
+def main() -> int:
     return ended("tools/check built-files", work, Missing, OSError, subprocess.CalledProcessError)

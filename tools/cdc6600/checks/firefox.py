@@ -11,6 +11,7 @@ import subprocess
 import tempfile
 from contextlib import suppress
 from pathlib import Path
+from typing import IO, Any
 
 from cdc6600.shared.waiting import wait_for_stream, wait_until
 
@@ -73,17 +74,19 @@ USE_SCRIPTS = "gBrowser.selectedBrowser.browsingContext.allowJavascript = argume
 class Firefox(Browser):
     """A Firefox with one page."""
 
-    def __init__(self):
-        self.room, self.socket, self.asked, self.runs_scripts = tempfile.TemporaryDirectory(), None, 0, True
-        self.shown = None
+    def __init__(self) -> None:
+        self.room, self.asked, self.runs_scripts = tempfile.TemporaryDirectory(), 0, True
+        self.shown: tuple[int, int, str, str, float] | None = None
         profile = Path(self.room.name)
         (profile / "user.js").write_text(SETTINGS, encoding="ascii")
-        pipes = dict.fromkeys(("stdin", "stdout", "stderr"), subprocess.DEVNULL)
+        pipes: dict[str, Any] = dict.fromkeys(("stdin", "stdout", "stderr"), subprocess.DEVNULL)
         environment = {**os.environ, **SCREEN, "HOME": self.room.name}
         self.process = subprocess.Popen([*WORDS, profile], **pipes, env=environment, start_new_session=True)
+        self.is_connected = False
         try:
             self.socket = socket.create_connection(("127.0.0.1", self.port(profile / PORT)))
-            self.answers = self.socket.makefile("rb")
+            self.answers: IO[bytes] = self.socket.makefile("rb")
+            self.is_connected = True
             self.message()
             self.call("WebDriver:NewSession", timeouts={"script": LIMIT, "pageLoad": LIMIT})
             self.beside(NOTE_REQUESTS)
@@ -91,16 +94,16 @@ class Firefox(Browser):
             self.close()
             raise
 
-    def port(self, file):
+    def port(self, file: Path) -> int:
         """The port on which the browser listens."""
-        def is_there():
+        def is_there() -> str:
             if self.process.poll() is not None:
                 raise Refused("firefox-esr doesn't start")
-            return file.exists() and file.read_text(encoding="ascii")
+            return file.read_text(encoding="ascii") if file.exists() else ""
 
         return int(wait_until(is_there, "firefox-esr to start"))
 
-    def message(self):
+    def message(self) -> Any:
         """The next message of the browser."""
         length = b""
         while not length.endswith(b":"):
@@ -110,21 +113,21 @@ class Firefox(Browser):
             length += part
         return json.loads(self.answers.read(int(length[:-1])))
 
-    def call(self, command, **given):
+    def call(self, command: str, **given: Any) -> Any:
         """Gives a command; what the browser answers."""
         self.asked += 1
         text = json.dumps([0, self.asked, command, given]).encode()
         self.socket.sendall(b"%d:%b" % (len(text), text))
-        wait_for_stream(f"the browser's answer to {command}: {given}", reading=[self.socket])
+        wait_for_stream(f"the browser's answer to {command}: {given}", reading=[self.socket.fileno()])
         _, _, fault, value = self.message()
         if fault:
             raise Refused(f"{fault['error']}: {fault['message'].splitlines()[0]}")
         return value
 
-    def send(self, command, **given):
+    def send(self, command: str, **given: Any) -> Any:
         return self.call(f"WebDriver:{command}", **given)["value"]
 
-    def beside(self, script, *given):
+    def beside(self, script: str, *given: Any) -> Any:
         """Runs a script in the browser's own context; what it returns."""
         self.call("Marionette:SetContext", value="chrome")
         try:
@@ -132,39 +135,39 @@ class Firefox(Browser):
         finally:
             self.call("Marionette:SetContext", value="content")
 
-    def run(self, script, *given):
+    def run(self, script: str, *given: Any) -> Any:
         how = IN_PAGE if self.runs_scripts else BESIDE_PAGE % script
         return json.loads(self.send("ExecuteScript", script=how, args=[script, list(given)], sandbox="system"))
 
-    def label(self, element):
+    def label(self, element: str) -> tuple[str, ...]:
         """What a screen reader says of an element. The browser works that out with the second frame at the latest."""
         self.run(FRAMES)
         return super().label(element)
 
-    def open(self, url):
+    def open(self, url: str) -> None:
         """Opens a page, and waits until it is there. A page may get a process of its own, which doesn't know yet how
         pages are shown."""
         super().open(url)
         if self.shown:
             self.show_as(*self.shown)
 
-    def look(self, *how):
-        self.shown = how
-        self.beside(LOOK, *how)
+    def look(self, width: int, height: int, scheme: str, media: str, scale: float) -> None:
+        self.shown = width, height, scheme, media, scale
+        self.beside(LOOK, *self.shown)
 
-    def use_scripts(self, is_used):
+    def use_scripts(self, is_used: bool) -> None:
         self.runs_scripts = is_used
         self.beside(USE_SCRIPTS, is_used)
 
-    def faults(self):
-        return self.beside(FAULTS)
+    def faults(self) -> list[str]:
+        return list(self.beside(FAULTS))
 
-    def requests(self):
-        return self.beside(REQUESTS)
+    def requests(self) -> list[str]:
+        return list(self.beside(REQUESTS))
 
-    def close(self):
+    def close(self) -> None:
         """Ends the browser."""
-        if self.socket:
+        if self.is_connected:
             with suppress(OSError, Refused):
                 self.call("Marionette:Quit", flags=["eForceQuit"])
             self.answers.close()

@@ -11,19 +11,27 @@ import subprocess
 import sys
 import threading
 from pathlib import Path
+from typing import Any, Callable
 
 PROCESS, THREAD = "process", "thread"
+Start = tuple[Any, str, Exception]
+# Where Python starts processes and threads, with the fault of a refused start.
+NO_PROCESS = OSError(errno.EAGAIN, os.strerror(errno.EAGAIN))
+OF_PROCESSES: list[Start] = [
+    (os, "fork", NO_PROCESS), (os, "posix_spawn", NO_PROCESS), (subprocess, "_fork_exec", NO_PROCESS),
+]
+OF_THREADS: list[Start] = [(threading, "_start_new_thread", RuntimeError("can't start new thread"))]
 
 
 class Starts:
     """The starts of one kind so far, one of which is refused."""
 
-    def __init__(self, at, mark):
+    def __init__(self, at: int, mark: str) -> None:
         self.left, self.mark = at, Path(mark)
 
-    def counted(self, start, fault):
+    def counted(self, start: Callable[..., Any], fault: Exception) -> Callable[..., Any]:
         """A function that starts something, or raises this fault where it is to be refused."""
-        def started(*words, **how):
+        def started(*words: Any, **how: Any) -> Any:
             self.left -= 1
             if not self.left:
                 self.mark.touch()
@@ -33,16 +41,11 @@ class Starts:
         return started
 
 
-def main():
+def main() -> None:
     kind, at, mark, tool, *words = sys.argv[1:]
     starts = Starts(int(at), mark)
-    if kind == THREAD:
-        fault = RuntimeError("can't start new thread")
-        threading._start_new_thread = starts.counted(threading._start_new_thread, fault)
-    else:
-        fault = OSError(errno.EAGAIN, os.strerror(errno.EAGAIN))
-        os.fork, os.posix_spawn = starts.counted(os.fork, fault), starts.counted(os.posix_spawn, fault)
-        subprocess._fork_exec = starts.counted(subprocess._fork_exec, fault)
+    for module, name, fault in OF_THREADS if kind == THREAD else OF_PROCESSES:
+        setattr(module, name, starts.counted(getattr(module, name), fault))
     sys.argv = [tool, *words]
     runpy.run_path(tool, run_name="__main__")
 

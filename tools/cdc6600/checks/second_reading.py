@@ -6,7 +6,6 @@ with the event that was made. The registers that an instruction writes are read 
 `replay` shows.
 """
 
-import re
 from dataclasses import dataclass, field
 from typing import Iterable
 
