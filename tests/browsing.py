@@ -4,7 +4,7 @@ from __future__ import annotations
 
 from contextlib import contextmanager
 from pathlib import Path
-from typing import Any, Iterator, Mapping
+from typing import Any, Iterator, Mapping, TypeVar
 
 from cdc6600.checks.web_driver import Browser
 
@@ -49,8 +49,11 @@ class View:
         assert begun == controls
 
 
+Viewed = TypeVar("Viewed", bound=View)
+
+
 @contextmanager
-def opened(view: View) -> Iterator[View]:
+def opened(view: Viewed) -> Iterator[Viewed]:
     """Opens a page in a wide window. By the end the browser may have asked for nothing else, and noted no fault."""
     view.browser.show_as(*WIDE)
     view.browser.requests()
@@ -61,6 +64,6 @@ def opened(view: View) -> Iterator[View]:
     assert (others, view.browser.faults()) == ([], [])
 
 
-def name_of(window: Window) -> str:
-    """The name of a case by its window."""
+def size_of(window: Window) -> str:
+    """The size of a window, by which a case is named."""
     return f"{window[0]}x{window[1]}"

@@ -57,7 +57,8 @@ def modules(tmp_path_factory: pytest.TempPathFactory) -> Path:
 @pytest.fixture
 def pictures(request: pytest.FixtureRequest) -> Path:
     """The folder for pictures of pages."""
-    return request.config.getoption("--pictures")
+    folder: Path = request.config.getoption("--pictures")
+    return folder
 
 
 @pytest.fixture(scope="session", params=CLIENTS)

@@ -51,6 +51,7 @@ class Failing:
         reads a byte a call, so that a session writes each answer before it reads the next event."""
         trace = self.folder / "trace"
         ran = self.run(words, text, "memory", short=1, trace=trace)
-        numbers = dict(map(int, line.split()) for line in trace.read_text(encoding="ascii").splitlines())
+        pairs = (line.split() for line in trace.read_text(encoding="ascii").splitlines())
+        numbers = {int(at): int(count) for at, count in pairs}
         starts = [0, *(at + 1 for at, byte in enumerate(bytes_of(ran.printed)) if byte == ord("\n"))]
         return ran, [numbers[start] for start in starts[:-1]]

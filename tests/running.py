@@ -35,6 +35,11 @@ class Ended:
         return self.printed.splitlines()
 
 
+def name_of(case: Any) -> str:
+    """The name of a case that has one."""
+    return str(case.name)
+
+
 def text_of(written: bytes) -> str:
     """Bytes as text that can be compared line by line."""
     return written.decode(errors="surrogateescape")
@@ -49,8 +54,9 @@ def called(*words: str | Path, given: bytes | str = b"", **how: Any) -> Ended:
     """Runs a command with this standard input, in the folder of the repository if no other one is given; how it ends.
 
     Raises Missing if it doesn't end within ten minutes."""
+    how = {"cwd": ROOT, **how}
     with input_of(bytes_of(given) if isinstance(given, str) else given) as text:
-        ran = run([*map(str, words)], capture_output=True, stdin=text, **{"cwd": ROOT, **how})
+        ran = run([*map(str, words)], capture_output=True, stdin=text, **how)
     return Ended.of(ran.returncode, ran.stdout, ran.stderr)
 
 
@@ -72,8 +78,8 @@ class Runner:
 def library_of(source: str, folder: Path) -> Path:
     """The library that a source in C of this folder makes, to be loaded by LD_PRELOAD."""
     library = folder / f"{source}.so"
-    words = [os.environ.get("CC", "cc"), "-O1", "-shared", "-fPIC", "-o", library, Path(__file__).with_name(source)]
-    run([*words, "-ldl"]).check_returncode()
+    words = [os.environ.get("CC", "cc"), "-O1", "-shared", "-fPIC", "-o", str(library)]
+    run([*words, str(Path(__file__).with_name(source)), "-ldl"]).check_returncode()
     return library
 
 

@@ -14,7 +14,7 @@ Run it after a change of the log, the saved pages or the session.
 
 from __future__ import annotations
 
-from typing import Sequence
+from typing import Any, Callable, Sequence
 
 import pytest
 from failing_calls import Failing
@@ -43,7 +43,7 @@ end
 """
 BEGIN = ["ask 40", "exchange"]
 # What the program's instructions are carried out by: a unit, with the channel and the bank of a reference.
-LOOP = (
+LOOP: Sequence[tuple[Any, ...]] = (
     ("boolean",), ("shift",), ("longadd",), ("divide",), ("increment1", None, 0), ("increment1", 1, 16),
     ("branch", None, 8), ("branch",), ("branch",), ("increment1", None, 0), ("branch",),
 )
@@ -68,7 +68,7 @@ def carried_out(unit: str, channel: int | None = None, bank: int | None = None) 
     return ["issue", *steps(unit), *reference]
 
 
-ROUND = [line for instruction in LOOP for line in carried_out(*instruction)]
+ROUND = [line for unit, *numbers in LOOP for line in carried_out(unit, *numbers)]
 # The units and references of the pending instructions, in an order in which they can be carried out.
 UNITS = ("boolean", "shift", "longadd", "divide", "increment1", "increment2")
 BY_HAND = [*(line for unit in UNITS for line in steps(unit)), "accept 0", "accept 1", "return 1"]
@@ -123,6 +123,8 @@ def test_drain(failing: Failing) -> None:
     (lambda many: ["replay", f"E40 I{many} E60 I{many}"], lambda _: DECK.encode()),
     (lambda many: ["run", "--sequential", "--budget", str(many)], lambda _: DECK.encode()),
 ], ids=("events", "replay", "run"))
-def test_many_take_as_much_as_few(failing: Failing, words, text) -> None:
+def test_many_take_as_much_as_few(
+    failing: Failing, words: Callable[[int], list[str]], text: Callable[[int], bytes]
+) -> None:
     (few, number), (many, other) = (failing.allocations(words(it), text(it)) for it in (FEW, MANY))
     assert few.status in (0, 5) and many.status in (0, 5) and number == other

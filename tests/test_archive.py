@@ -33,9 +33,9 @@ NAMED = re.compile(r"(?:bin|share)/[\w./-]*\w")
 LATEST, NEEDED = re.compile(r"glibc (\d+)\.(\d+)"), re.compile(rb"GLIBC_(\d+)\.(\d+)")
 # The name of the archive, and the session that START.txt draws.
 NAME, DRAWN = "cdc6600.tar.gz", "conflicts"
-DUMP = Ended.of(0, deck(FIRST.stem).dump)
+DUMP = Ended.of(0, deck(FIRST.stem).dump or b"")
 # What the commands of START.txt print, and that of the program beside the pages.
-COMMANDS = (DUMP, Ended.of(0, session(DRAWN).timeline))
+COMMANDS = (DUMP, Ended.of(0, session(DRAWN).timeline or b""))
 BESIDE_PAGES = f"cd {DOCUMENTS} && ./cdc6600 run < {FIRST.relative_to(ROOT)}"
 BAD_CALLS = ([NAME, "prefix"], [NAME, "--uninstall"], [NAME, "--without", "tools"])
 
@@ -94,7 +94,7 @@ def test_refused_files(room: Path, tmp_path: Path) -> None:
         written.add(text, "text")
     before = other.read_bytes()
     for it in (other, text, link, folder, tmp_path / "none/archive", text / "archive", ""):
-        came = install(tmp_path, it)
+        came = install(tmp_path, str(it))
         assert (came.status, came.told.count("\n")) == (1, 1)
     assert other.read_bytes() == before and text.read_bytes() == b"text" and link.is_symlink()
     assert not list(tmp_path.glob(".*.new"))

@@ -19,6 +19,7 @@ from __future__ import annotations
 
 import json
 import re
+from operator import attrgetter
 from pathlib import Path
 from typing import Sequence
 
@@ -39,7 +40,7 @@ TOOL, REFERENCE = "tools/assemble", 0o100
 BUDGET = ("--budget", "2000")
 FAULT = "2:3: 'FX2 X1+X1' is floating point, which isn't implemented"
 # What each tool is called with; FOLDER stands for a folder of its own, and PROGRAM for the program.
-TOOLS = {
+TOOLS: dict[str, list[str]] = {
     "schedule": ["--summary"], "explore": [], "operate": ["--plain"], "trace": [], "compare": ["PROGRAM replay"],
     "gallery": ["FOLDER/pages"], "run-jobs": ["FOLDER/jobs"], "timeline": [], "beside": [],
 }
@@ -123,7 +124,7 @@ def test_whole_source(program: Runner, source: str, deck: str) -> None:
     assert (accepted.status, accepted.told) == (0, "")
 
 
-@pytest.mark.parametrize("file", sorted(SOURCES.glob("*.source")), ids=lambda file: file.stem)
+@pytest.mark.parametrize("file", sorted(SOURCES.glob("*.source")), ids=attrgetter("stem"))
 def test_stored_program(program: Runner, file: Path) -> None:
     deck, source = called(TOOL, file), file.read_text(encoding="utf-8")
     assert (deck.status, deck.told) == (0, "")
@@ -161,7 +162,7 @@ def test_tool_with_source(program: Runner, tmp_path: Path, tool: str) -> None:
         folder.mkdir()
         words = [word.replace("FOLDER", str(folder)).replace("PROGRAM", program.path) for word in TOOLS[tool]]
         came = called(f"tools/{tool}", *words, file, given=TYPED)
-        return Ended(came.status, *(it.replace(".source", ".deck") for it in (came.printed, came.told)))
+        return Ended(came.status, came.printed.replace(".source", ".deck"), came.told.replace(".source", ".deck"))
 
     assert ended("it.source", GOOD) == ended("it.deck", deck_of(GOOD))
     came = ended("bad.source", FAULTY)

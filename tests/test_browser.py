@@ -32,8 +32,8 @@ from pathlib import Path
 from typing import Any, Iterator
 
 import pytest
-from browsing import NARROW, SCHEMES, WIDE, View, Window, name_of, opened
-from running import Runner, bytes_of, called, text_of
+from browsing import NARROW, SCHEMES, WIDE, View, Window, opened, size_of
+from running import Runner, bytes_of, called, name_of, text_of
 
 from cdc6600.checks.chromium import Chromium
 from cdc6600.checks.web_driver import Browser
@@ -137,7 +137,7 @@ def gallery(program: Runner, tmp_path_factory: pytest.TempPathFactory) -> Path:
     return folder
 
 
-@pytest.fixture(name="page", params=sessions(), ids=lambda it: it.name)
+@pytest.fixture(name="page", params=sessions(), ids=name_of)
 def page_of_a_session(
     browser: Browser, gallery: Path, program: Runner, request: pytest.FixtureRequest
 ) -> Iterator[SessionPage]:
@@ -164,7 +164,11 @@ def without_scripts(browser: Browser) -> Iterator[None]:
 def test_steps(page: SessionPage, way: str) -> None:
     if way == "slider":
         page.see("focusOn", "#slider")
-    go, (first, back, on, last) = (page.click, BUTTONS) if way == "buttons" else (page.browser.press, KEYS)
+    first, back, on, last = BUTTONS if way == "buttons" else KEYS
+
+    def go(where: str) -> None:
+        page.click(where) if way == "buttons" else page.browser.press(where)
+
     go(first)
     for n in range(page.last + 1):
         page.check(n)
@@ -194,13 +198,13 @@ def test_hidden_answers(page: SessionPage) -> None:
     page.check(page.last)
 
 
-@pytest.mark.parametrize("window", (NARROW, *ENLARGED), ids=name_of)
+@pytest.mark.parametrize("window", (NARROW, *ENLARGED), ids=size_of)
 def test_width(page: SessionPage, window: Window) -> None:
     page.browser.show_as(*window)
     assert page.at_events("wide") == []
 
 
-@pytest.mark.parametrize("window", STEPPING, ids=name_of)
+@pytest.mark.parametrize("window", STEPPING, ids=size_of)
 def test_in_sight(page: SessionPage, window: Window) -> None:
     page.browser.show_as(*window)
     page.see("scrollTo", "#panel")
@@ -217,7 +221,7 @@ def test_contrast(page: SessionPage, scheme: str) -> None:
 def test_address(page: SessionPage) -> None:
     page.browser.press("Home", "Right")
     named = f"#event-{min(2, page.last + 1)}"
-    wait_until(lambda: page.see("address") == named, f"the address {named}")
+    wait_until(lambda: bool(page.see("address") == named), f"the address {named}")
     n = (page.last + 1) // 2
     page.open(f"#event-{n + 1}")
     page.check(n)
@@ -269,7 +273,8 @@ def cycles(gallery: Path) -> list[int]:
     """The minor cycle of each event of the page of a schedule."""
     found = DATA.search((gallery / "cycles.html").read_text(encoding="utf-8"))
     assert found
-    return json.loads(found[1])["cycles"]
+    cycles: list[int] = json.loads(found[1])["cycles"]
+    return cycles
 
 
 @pytest.mark.parametrize("view", ["cycles"], indirect=True)

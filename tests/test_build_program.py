@@ -163,7 +163,7 @@ def checkout(tmp_path: Path) -> Checkout:
 
 
 def test_content_counts(checkout: Checkout) -> None:
-    proved, kept = ("proved run\n", NAMES), ("proved run\n", [])
+    proved, kept = ("proved run\n", NAMES), ("proved run\n", list[str]())
     assert checkout.answer("run") == proved
     assert checkout.answer("run") == kept
     for file in checkout.root.glob("crates/*/src/*"):
@@ -225,8 +225,8 @@ def test_unproved_is_kept(checkout: Checkout) -> None:
 
 def test_tools_take_unproved(checkout: Checkout) -> None:
     checkout.answer("--unproved", "run")
-    deck = ROOT / "decks/two-adds.deck"
-    for name, *words in (("schedule", deck), ("trace", deck), ("run-jobs", checkout.room / "jobs", deck)):
+    deck = str(ROOT / "decks/two-adds.deck")
+    for name, *words in (("schedule", deck), ("trace", deck), ("run-jobs", str(checkout.room / "jobs"), deck)):
         with checkout.start(*words, command=f"tools/{name}") as process:
             told = finish(process, name)[1]
         # The program of this test is none, so the tool comes to no result.
@@ -245,11 +245,13 @@ def estimates(seed: int, slower: float = 1) -> list[tuple[float, float]]:
     work = {name: pace * drawn.uniform(0.8, 1.25) * plan.work[name] for name in plan.crates}
     forecast, times = Forecast(plan, 4, 6), Forecast(plan, 4, 6).go_through(work)
     middle = max(ended for _, ended in times.values()) / 2
-    times = {it: [at + (slower - 1) * max(at - middle, 0) for at in pair] for it, pair in times.items()}
-    begins = sorted((begun, 0, name) for name, (begun, _) in times.items())
-    ends = sorted((ended, -1, name) for name, (_, ended) in times.items())
+    begun_at, ended_at = (
+        {it: pair[end] + (slower - 1) * max(pair[end] - middle, 0) for it, pair in times.items()} for end in (0, 1)
+    )
+    begins = sorted((begun, 0, name) for name, begun in begun_at.items())
+    ends = sorted((ended, -1, name) for name, ended in ended_at.items())
     proved: set[str] = set()
-    found = []
+    found = list[tuple[float, float]]()
     for now, kind, name in sorted(begins + ends):
         if kind == 0:
             forecast.begin(name, now)

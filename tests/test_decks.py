@@ -40,7 +40,7 @@ def ends_of(it: Deck) -> Iterator[tuple[Sequence[str], Ended]]:
     if not it.logs:
         yield (*THREADED, *it.arguments), wanted
     yield (*SEQUENTIAL, *it.arguments), wanted
-    yield ("replay", log_of(it.dump)), wanted
+    yield ("replay", log_of(it.dump) or ""), wanted
     if it.listing is not None:
         yield ["list"], Ended.of(0, it.listing, it.told)
 
@@ -58,7 +58,7 @@ def race(
 ) -> None:
     """Makes a run whose log is one of these, and compares it with the replay of its log."""
     came = program(*words, given=text)
-    log = log_of(came.printed.encode())
+    log = log_of(came.printed.encode()) or ""
     assert (came.status, came.told) == (status, text_of(told)) and log in logs
     assert program("replay", log, given=text) == came
 

@@ -29,8 +29,8 @@ from pathlib import Path
 from typing import Any, Iterator
 
 import pytest
-from browsing import SCHEMES, WIDE, View, name_of, opened
-from running import Runner
+from browsing import SCHEMES, WIDE, View, opened, size_of
+from running import Runner, name_of
 
 from cdc6600.assembling.output import deck_of, listing_of
 from cdc6600.assembling.sources import read_source
@@ -106,7 +106,7 @@ class DrivingPage(View):
     def open(self, fragment: str = "") -> None:
         """Opens the page anew, and waits until the machine is there."""
         super().open(fragment)
-        wait_until(lambda: self.see("isReady"), "the page to be ready")
+        wait_until(lambda: bool(self.see("isReady")), "the page to be ready")
 
     def start(self, text: bytes) -> None:
         """Starts a program in the page."""
@@ -128,7 +128,7 @@ class DrivingPage(View):
         text, steps, *others = self.see("made")
         wanted = wanted_of(program, name, text)
         assert [steps, *others] == [wanted[0][: len(steps)], *wanted[1:]]
-        return text
+        return str(text)
 
 
 @pytest.fixture(name="page")
@@ -137,9 +137,9 @@ def opened_page(browser: Browser, modules: Path) -> Iterator[DrivingPage]:
         yield page
 
 
-@pytest.mark.parametrize("it", sessions(), ids=lambda it: it.name)
+@pytest.mark.parametrize("it", sessions(), ids=name_of)
 def test_session(page: DrivingPage, program: Runner, it: Session) -> None:
-    assert page.see("called", "events", coded(it.text)) == [0, coded(it.answers), ""]
+    assert page.see("called", "events", coded(it.text)) == [0, coded(it.answers or b""), ""]
     page.start(it.text)
     made, events = page.check_made(program, str(it)), [line for line in it.schedule if line not in ENDS]
     assert made.split("\nend\n")[1].split("\n")[: len(events)] == events
@@ -177,7 +177,7 @@ def test_look(page: DrivingPage, is_timed: bool, scheme: str) -> None:
         page.walk(len(DRAWN) - 1)
     for window in WINDOWS:
         page.browser.show_as(*window, scheme)
-        assert page.see("wide") + page.see("dim") + page.see("small") == [], name_of(window)
+        assert page.see("wide") + page.see("dim") + page.see("small") == [], size_of(window)
 
 
 def test_keys(page: DrivingPage) -> None:
@@ -213,7 +213,7 @@ def test_kept_session(page: DrivingPage) -> None:
     made, (text, name) = page.see("made"), page.see("kept")
     page.start(REFUSED)
     page.see("openFile", text, name)
-    wait_until(lambda: page.see("text", "about") == name, f"{name} to be opened")
+    wait_until(lambda: bool(page.see("text", "about") == name), f"{name} to be opened")
     assert page.see("made") == made
 
 

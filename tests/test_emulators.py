@@ -35,7 +35,7 @@ from xml.etree import ElementTree
 import planting
 import pytest
 from planting import AT_EDGES, NUMBERS, PLANTED, STOP, AtEdge, Planted
-from running import Ended, Runner, called
+from running import Ended, Runner, called, name_of
 
 from cdc6600.comparing.coverage import Coverage, shown_by
 from cdc6600.comparing.edges import is_branch
@@ -196,13 +196,13 @@ def judged(*words: str | Path) -> Any:
     return told
 
 
-@pytest.mark.parametrize("case", CASES, ids=lambda it: it.name)
+@pytest.mark.parametrize("case", CASES, ids=name_of)
 def test_plain_interpreter(trials: Trials, plain: str, case: Case) -> None:
     report = trials.report(case, plain, lambda whole: points_every(whole, max(1, whole // BEGINNINGS)))
     assert not report, report.line
 
 
-@pytest.mark.parametrize("fault", [it for it in PLANTED if not it.deck], ids=lambda it: it.name)
+@pytest.mark.parametrize("fault", [it for it in PLANTED if not it.deck], ids=name_of)
 def test_planted(trials: Trials, faulty: Callable[[Planted], str], fault: Planted) -> None:
     reports = (trials.report(case, faulty(fault), points_every) for case in CASES)
     found = [*islice(filter(None, reports), MOST_REPORTS)]
@@ -210,7 +210,7 @@ def test_planted(trials: Trials, faulty: Callable[[Planted], str], fault: Plante
     assert [f"{it.name}: {it.line}" for it in found if not re.match(fault.steps, it.what)] == []
 
 
-@pytest.mark.parametrize("fault", [it for it in PLANTED if it.deck], ids=lambda it: it.name)
+@pytest.mark.parametrize("fault", [it for it in PLANTED if it.deck], ids=name_of)
 def test_covered_up(trials: Trials, faulty: Callable[[Planted], str], fault: Planted) -> None:
     case = next(it for it in CASES if it.name == fault.deck)
     assert not trials.report(case, faulty(fault), points_every)
@@ -218,7 +218,7 @@ def test_covered_up(trials: Trials, faulty: Callable[[Planted], str], fault: Pla
     assert report and re.match(fault.steps, report.what)
 
 
-@pytest.mark.parametrize("fault", AT_EDGES, ids=lambda it: it.name)
+@pytest.mark.parametrize("fault", AT_EDGES, ids=name_of)
 def test_at_edge(trials: Trials, faulty: Callable[[AtEdge], str], fault: AtEdge) -> None:
     """The dumps after the decks' whole logs are compared first: if they differ, the tool finds the deck. Which of its
     points comes first makes no difference to the name, since nothing but this row is wrong."""
@@ -343,7 +343,7 @@ def test_interrupt(program: Runner, tmp_path: Path, number: signal.Signals) -> N
         raise
 
 
-@pytest.mark.parametrize("case", DRAWN, ids=lambda it: it.name)
+@pytest.mark.parametrize("case", DRAWN, ids=name_of)
 def test_drawn_deck_ends(trials: Trials, case: Case) -> None:
     deck = trials.replayed(case)
     assert (deck.whole.state["HALT"], deck.whole.state["FAULT"]) != ("running", "none")

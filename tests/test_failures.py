@@ -94,7 +94,7 @@ ADDS, JOBS, FAULT = deck("two-adds"), deck("two-jobs"), deck("address-fault")
 MID_WORD, PERIPHERAL = session("mid-word-exchange").text, session("peripheral").text
 CASES = {
     **{f"{it.name}: {command.split()[0]}": Case(command, it.text, tuple(it.logs))
-       for it in (ADDS, FAULT) for command in ("list", f"replay {log_of(it.dump)}", "run")},
+       for it in (ADDS, FAULT) for command in ("list", f"replay {log_of(it.dump or bytes())}", "run")},
     **{f"{name}: {command}": Case(command, text, logs) for name, text, logs in (
         ("two jobs", JOBS.text, ()), ("free requests", FREE_REQUESTS, tuple(free_logs())),
     ) for command in ("run", "run --sequential")},
@@ -132,7 +132,7 @@ class Tried:
         if not self.case.is_threaded:
             return [self.run()[0]]
         program, text = self.failing.program, self.case.text
-        logs = self.case.logs or [log_of(bytes_of(program("run", "--sequential", given=text).printed))]
+        logs = self.case.logs or [log_of(bytes_of(program("run", "--sequential", given=text).printed)) or ""]
         return [program("replay", log, given=text) for log in logs]
 
     @cache
@@ -163,7 +163,7 @@ class Tried:
         return replace(came, printed="") == refusal and is_begun and (may_print or not came.printed)
 
 
-@pytest.fixture(scope="module", params=CASES.values(), ids=CASES)
+@pytest.fixture(scope="module", params=[*CASES.values()], ids=[*CASES])
 def tried(request: pytest.FixtureRequest, failing: Failing) -> Tried:
     """A case."""
     return Tried(failing, request.param)

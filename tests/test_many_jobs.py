@@ -24,7 +24,7 @@ import signal
 import subprocess
 from contextlib import contextmanager
 from pathlib import Path
-from typing import Any, Iterator
+from typing import Any, Callable, Iterator
 
 import pytest
 from running import Ended, Runner, called
@@ -90,7 +90,7 @@ class Folder:
     def call(self, *words: str, **how: Any) -> Iterator[subprocess.Popen[str]]:
         """Starts the tool through a symbolic link, with these words; its process. It leads a group of processes."""
         pipes = {"stdout": subprocess.PIPE, "stderr": subprocess.PIPE, "text": True, "start_new_session": True}
-        begin = {"cwd": self.room, "env": self.environment, **pipes, **how}
+        begin: dict[str, Any] = {"cwd": self.room, "env": self.environment, **pipes, **how}
         with subprocess.Popen(["./link", *words], **begin) as process:
             try:
                 yield process
@@ -201,14 +201,15 @@ def small(tmp_path: Path) -> Folder:
 
 def test_edits(small: Folder) -> None:
     words, arguments = (JOBS, ONE, "decks/two.deck"), "decks/two.arguments"
-    for change, ran in (
+    changes: tuple[tuple[Callable[[], object], list[str]], ...] = (
         (lambda: None, ["one", "two"]),
         (lambda: os.utime(small.room / ONE), []),
         (lambda: small.write(ONE, "edited\n"), ["one"]),
         (lambda: small.write(arguments, "--budget 7\n"), ["two"]),
         (lambda: small.write(arguments, "--budget\n7"), []),
         (lambda: (small.room / arguments).unlink(), ["two"]),
-    ):
+    )
+    for change, ran in changes:
         change()
         assert small.answer(*words) == (DONE, ran)
 
@@ -349,7 +350,7 @@ def test_tasks_of_slurm(small: Folder) -> None:
         ran = []
         for task in tasks:
             array = {"COUNT": len(tasks), "MIN": min(tasks), "MAX": max(tasks), "ID": task}
-            slurm = {f"SLURM_ARRAY_TASK_{name}": str(number) for name, number in array.items()}
+            slurm: dict[str, Any] = {f"SLURM_ARRAY_TASK_{name}": str(number) for name, number in array.items()}
             came, names_of_task = small.run("sh", "jobs.sh", SLURM_CPUS_PER_TASK="2", **slurm)
             assert came.status == 0, came
             ran += names_of_task

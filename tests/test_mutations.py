@@ -17,7 +17,7 @@ from __future__ import annotations
 import functools
 import random
 import re
-from typing import Any, Callable
+from typing import Callable, TypeVar
 
 import pytest
 from running import Ended, Runner, told_at_terminal
@@ -57,9 +57,8 @@ def within(holds: bool, fault: str) -> None:
 class Deck:
     """What the lines of a deck have said so far; a method for each line, called with its fields."""
 
-    size: int | None = None
     start: int | None = None
-    place = shows = asks = 0
+    size = place = shows = asks = 0
 
     def __init__(self) -> None:
         self.words: dict[int, int] = {}
@@ -67,7 +66,7 @@ class Deck:
     def core(self, size: bytes) -> None:
         words = number(size, 10, 6)
         within(LEAST_WORDS <= words <= MOST_WORDS, "size")
-        within(self.size is None, "repeated")
+        within(not self.size, "repeated")
         self.size = words
 
     def at(self, address: bytes) -> None:
@@ -110,14 +109,16 @@ class Deck:
         within(first <= last < self.size, "range")
         self.shows += 1
 
-    LINES = {b"core": (core, [1]), b"at": (at, [1]), b"word": (word, [1]), b"start": (begin, [1]),
-             b"ask": (ask, [2, 3]), b"show": (show, [2])}
+    LINES: dict[bytes, tuple[Callable[..., None], list[int]]] = {
+        b"core": (core, [1]), b"at": (at, [1]), b"word": (word, [1]), b"start": (begin, [1]),
+        b"ask": (ask, [2, 3]), b"show": (show, [2]),
+    }
 
     def take(self, line: bytes) -> bool:
         """Takes a line, and says whether the deck is at its end."""
         within(len(line) <= 200, "long")
         first, *fields = line.split(b" ")
-        within(self.size is not None or first == b"core", "first")
+        within(bool(self.size) or first == b"core", "first")
         if first == b"end" and not fields:
             within(self.start is not None, "no start")
             return True
@@ -133,9 +134,9 @@ def code_word(texts: bytes) -> int:
     """The word of some instructions, filled up with passes."""
     found = [instruction(text.decode("latin-1")) for text in texts.split(b"; ")]
     within(None not in found, "instruction")
-    parcels = sum((it.parcels for it in found), [])
+    parcels = [parcel for it in found if it for parcel in it.parcels]
     within(len(parcels) <= 4, "full")
-    return functools.reduce(lambda word, parcel: word << 15 | parcel, [*parcels, *[0o46000] * (4 - len(parcels))])
+    return functools.reduce(lambda word, parcel: word << 15 | parcel, [*parcels, *[0o46000] * (4 - len(parcels))], 0)
 
 
 def listing_of(words: dict[int, int]) -> str:
@@ -188,7 +189,9 @@ WRONG = [b"0", b"8", b" ", b"", b"+", b"-", b"B0", b"K", b"x"]
 ENDS = [b"\nend", b"\nen", b"\nend\r", b"\nend\x00", b"\nend ", b"\n", b"", b"\n\nend"]
 AFTER_END = [b"\x00", b"core 31\n", b"x" * 300, b"\n\n", b"\xff\n"]
 SIZES = [b"32", b"33", b"48", b"64", b"80", b"128", b"255", b"256", b"131072", b"000256"]
-Draw, Lines = random.Random, list[bytes]
+Draw = random.Random
+Lines = list[bytes]
+Items = TypeVar("Items", bytes, Lines)
 
 
 def some_instruction(draw: Draw) -> bytes:
@@ -229,7 +232,7 @@ def drawn_deck(draw: Draw) -> bytes:
     return b"\n".join([*lines, b"end", b""])
 
 
-def spliced(draw: Draw, items: Any, added: Any, dropped: int = 0) -> Any:
+def spliced(draw: Draw, items: Items, added: Items, dropped: int = 0) -> Items:
     """A text or a list with something added at a place that is drawn, and so many items after it dropped."""
     at = draw.randrange(len(items) + (not dropped))
     return items[:at] + added + items[at + dropped:]
@@ -243,7 +246,7 @@ def change_field(draw: Draw, line: bytes) -> Lines:
 
 def change_fields(draw: Draw, line: bytes) -> Lines:
     """Fields added or dropped."""
-    added = draw.choice([[], [b""], [b"0"], [b"", b""], [b"after"]])
+    added: Lines = draw.choice([[], [b""], [b"0"], [b"", b""], [b"after"]])
     return [b" ".join(spliced(draw, line.split(b" "), added, draw.randrange(2)))]
 
 
@@ -260,7 +263,7 @@ def carriage_return(draw: Draw, deck: bytes) -> bytes:
 
 
 # What is put in the place of a line.
-OF_A_LINE = (
+OF_A_LINE: tuple[Callable[[Draw, bytes], Lines], ...] = (
     lambda draw, line: [line] * draw.choice([3, 63, 64, 65, 66]),
     lambda draw, line: [draw.choice(LIMITED)] * draw.choice([1, 63, 64, 64, 65]) + [line],
     lambda draw, line: [],
@@ -291,7 +294,7 @@ def change_byte(draw: Draw, deck: bytes) -> bytes:
 
 
 # The mutations of a deck, with their weights.
-MUTATIONS = {
+MUTATIONS: dict[Callable[[Draw, bytes], bytes], int] = {
     lambda draw, deck: deck[:draw.randrange(len(deck) + 1)]: 2,
     change_byte: 4, carriage_return: 1, copy_line: 2, change_line: len(OF_A_LINE),
     lambda draw, deck: deck[:deck.find(b"\nend\n")] + draw.choice(ENDS): 1,
@@ -305,7 +308,7 @@ def mutated(case: int) -> bytes:
     """The deck of a case. It depends on the number of the case alone."""
     draw = random.Random(f"{SEED} {case}")
     text = draw.choice(STORED) if draw.random() < 0.7 else drawn_deck(draw)
-    for mutation in draw.choices([*MUTATIONS], MUTATIONS.values(), k=draw.choice([0, 1, 1, 1, 2, 2, 3, 4])):
+    for mutation in draw.choices([*MUTATIONS], [*MUTATIONS.values()], k=draw.choice([0, 1, 1, 1, 2, 2, 3, 4])):
         text = mutation(draw, text)
     return text
 
@@ -335,7 +338,7 @@ def is_positioned(told: str, fault: str, deck: bytes) -> bool:
         return told == fault
     found = re.fullmatch(r"cdc6600: column (\d+): (.*)\n", told.removeprefix(fault))
     line = deck.split(b"\n")[int(re.findall(r"line (\d+)", fault)[0]) - 1]
-    return bool(found) and told.startswith(fault) and is_at(line, int(found[1]), found[2])
+    return bool(found and told.startswith(fault) and is_at(line, int(found[1]), found[2]))
 
 
 def compare(program: Runner, deck: bytes, wanted: Ended, what: str) -> None:

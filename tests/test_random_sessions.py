@@ -31,7 +31,7 @@ from pathlib import Path
 from typing import Any, Iterator, Sequence
 
 import pytest
-from running import Ended, Runner, called
+from running import Ended, Runner, called, name_of
 
 from cdc6600.checks.drawn_sessions import drawn_session
 from cdc6600.checks.judging_by_rules import Judge
@@ -67,7 +67,8 @@ class Shown:
 
     @cached_property
     def data(self) -> dict[str, Any]:
-        return data_of(self.page)
+        data: dict[str, Any] = data_of(self.page)
+        return data
 
     def blocks(self) -> Iterator[set[tuple[str, str, str]]]:
         """What `tools/beside --values` should print after each event: each value with its mark."""
@@ -108,7 +109,7 @@ def check_rules(page: Page, n: int, answer: str, judge: Judge, state: Any) -> No
     assert set(came.loaded) == state.loaded
     if answer.startswith("E"):
         refusal = page.retracing.refusals[n]
-        assert expected and (refusal.answer, refusal.rows) == (expected.answer, expected.rows)
+        assert expected and refusal and (refusal.answer, refusal.rows) == (expected.answer, expected.rows)
         assert answer == expected.answer
     assert not (answer.startswith("ok") and expected)
 
@@ -223,7 +224,7 @@ def check_beside(it: Shown, name: str | Path) -> None:
     assert blocks == list(it.blocks())
 
 
-@pytest.mark.parametrize("stored", sessions(), ids=lambda it: it.name)
+@pytest.mark.parametrize("stored", sessions(), ids=name_of)
 def test_values(program: Runner, stored: Any) -> None:
     it = Shown(Program(program.path), stored.name, stored.text.decode("latin-1"))
     check_values(it, 2)

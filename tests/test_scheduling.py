@@ -22,7 +22,7 @@ from pathlib import Path
 from typing import Any, Sequence
 
 import pytest
-from running import Ended, Runner, called, text_of
+from running import Ended, Runner, called, name_of, text_of
 
 from cdc6600.checks.judging_by_rules import Judge
 from cdc6600.checks.states_by_rules import readings_of
@@ -134,7 +134,7 @@ def check_following(program: Runner, schedule: Schedule) -> None:
         assert [part.waits for part in of_session] == [part.waits for part in of_schedule]
 
 
-@pytest.mark.parametrize("deck", [it for it in decks() if it.dump is not None], ids=lambda it: it.name)
+@pytest.mark.parametrize("deck", [it for it in decks() if it.dump is not None], ids=name_of)
 def test_deck(program: Runner, deck: Deck) -> None:
     made = {policy: scheduled(program, deck, policy) for policy in POLICIES}
     for schedule in made.values():

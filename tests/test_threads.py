@@ -14,6 +14,7 @@ from __future__ import annotations
 import os
 import subprocess
 from pathlib import Path
+from typing import Any
 
 import pytest
 from running import Runner, library_of
@@ -65,7 +66,7 @@ def test_held_thread(program: Runner, library: Path, thread: str) -> None:
     held, release = os.pipe()
     number = str(STARTED.index(thread) + 1)
     how = {**os.environ, "LD_PRELOAD": str(library), "HELD_THREAD": number, "HELD_UNTIL": str(held)}
-    begin = {"env": how, "pass_fds": [held], "stdout": subprocess.DEVNULL}
+    begin: dict[str, Any] = {"env": how, "pass_fds": [held], "stdout": subprocess.DEVNULL}
     with open(release, "wb") as held_back, input_of(DECK) as deck:
         with subprocess.Popen([program.path, *WORDS], stdin=deck, **begin) as process:
             os.close(held)

@@ -55,7 +55,7 @@ def test_no_label(line: str) -> None:
 def test_name_of_a_variant(ending: str, name: str | None) -> None:
     found = LABELS["E22"].name_in(VARIANTS + ending)
     assert bool(found) == bool(name)
-    assert not found or (found.search(f"= Err {name}")[0] == name and not found.search(f"= Err Un{name}"))
+    assert not found or (found.findall(f"= Err {name}") == [name] and not found.search(f"= Err Un{name}"))
 
 
 def test_each_refusal_has_a_label_and_every_heading() -> None:

@@ -125,7 +125,8 @@ VERDICTS: dict[str, tuple[int, Edit, str | None]] = {
 
 def text_of(path: str) -> str:
     """A file of the crate."""
-    return TINY[f"{CRATE}/{path}"]
+    text: str = TINY[f"{CRATE}/{path}"]
+    return text
 
 
 LIBRARY, PROOF = text_of("src/lib.rt"), text_of("proofs/two_more/Answers.antt")
@@ -237,7 +238,7 @@ def test_closure_proof_is_copied(tiny: Tiny) -> None:
     ((copy,),) = copied([tiny.bodies["closure_adds_one_once"]], tiny.source, tiny.crate)
     old, new = (f"proofs/fn/{name}/again/Answers.antt" for name in ("by_closure", "by_closure_wrong_0"))
     wanted = text_of(old).replace("proofs.fn.by_closure.", "proofs.fn.by_closure_wrong_0.")
-    assert [*map(tuple, copy.proofs)] == [(new, old, wanted)]
+    assert [tuple(it) for it in copy.proofs] == [(new, old, wanted)]
     for name in ("tiny::fn::by_closure_wrong_0::again", "tiny::by_closure_wrong_0"):
         assert is_of(name, copy.item, "tiny")
 
@@ -290,18 +291,19 @@ step c = 0
 
 def test_contracts_of_right_bodies_are_assumed(tiny: Tiny) -> None:
     texts = assumed(tiny.source, tiny.crate, tiny.bodies["adds_two"].touched, {"src/lib.rt": LIBRARY})
-    first, _, *proof = texts["proofs/two_more/Proof.antt"].split("\n")
+    first, _, *proof = str(texts["proofs/two_more/Proof.antt"]).split("\n")
     assert first == "use Rattle.tiny.proofs.two_more.Statement.{statement}"
     assert proof == ["pub two_more_spec : {M : Type 1} → statement M", "two_more_spec = ?", ""]
     assert texts["proofs/two_more/Answers.antt"] is None and "proofs/Few/with_another/Proof.antt" in texts
     assert not any("plus_one" in path or "weight" in path for path in texts)
-    assert "    plus_one(plus_one(x))\n" in LIBRARY and "    plus_one(plus_one(x))\n" not in texts["src/lib.rt"]
-    assert "    // One more.\n    x + 1\n" in texts["src/lib.rt"]
+    library = str(texts["src/lib.rt"])
+    assert "    plus_one(plus_one(x))\n" in LIBRARY and "    plus_one(plus_one(x))\n" not in library
+    assert "    // One more.\n    x + 1\n" in library
 
 
 def test_right_bodies_do_nothing_beside_copies(tiny: Tiny) -> None:
     copies = [tiny.copy(name, f"wrong_{at}") for at, name in enumerate(("adds_two", "larger_of_two"))]
-    text = assumed(tiny.source, tiny.crate, [], beside(copies, tiny.source))["src/lib.rt"]
+    text = str(assumed(tiny.source, tiny.crate, [], beside(copies, tiny.source))["src/lib.rt"])
     assert "    x + 2\n" in text and "{ b } else { a }\n" in text
     assert "    x + 1\n" not in text and "{ a } else { b }" not in text
 
@@ -417,8 +419,8 @@ def test_bodies_of_the_night_are_left_out_while_nothing_changes(tmp_path: Path) 
     folders = {"adds_two": "wrong-bodies", "adds_three_in_all": "nightly-bodies", "larger_of_two": "must-fail"}
     for name, folder in folders.items():
         write_edits(tmp_path, {name: REFUSED[name]}, folder)
-    for words, count in (([], 1), (["--all"], 3), ([], 1), (["tiny"], 3)):
-        assert runs(tmp_path, *words).lines[-1] == counted(count)
+    for word, count in (("", 1), ("--all", 3), ("", 1), ("tiny", 3)):
+        assert runs(tmp_path, *word.split()).lines[-1] == counted(count)
     change_what_is_read(tmp_path)
     assert [runs(tmp_path).lines[-1] for _ in range(2)] == [counted(3), counted(1)]
 

@@ -1,10 +1,13 @@
 """The browsers in which pages are tried: each that is installed."""
 
+from typing import Callable
+
 from .chromium import Chromium
 from .debian import BROWSERS, absent, names_of
 from .firefox import Firefox
+from .web_driver import Browser
 
-CLIENTS = {"Chromium": Chromium, "Firefox": Firefox}
+CLIENTS: dict[str, Callable[[], Browser]] = {"Chromium": Chromium, "Firefox": Firefox}
 
 
 def why_left_out(name: str) -> str:

@@ -29,5 +29,6 @@ def sources() -> list[str]:
 
 def main() -> int:
     styled = [python_with("flake8"), "-m", "flake8", *sources()]
-    typed = ["mypy", "--config-file", "tools/mypy.ini", "--no-error-summary"]
+    tests = [path for path in sources() if path.startswith("tests/")]
+    typed = ["mypy", "--config-file", "tools/mypy.ini", "--no-error-summary", "tools/cdc6600", *tests]
     return max([subprocess.run(words, cwd=ROOT, check=False).returncode for words in (styled, typed)])
