@@ -36,8 +36,10 @@ import sys
 import tempfile
 import threading
 from concurrent.futures import ThreadPoolExecutor
+from functools import partial
 from itertools import pairwise
 from pathlib import Path
+from typing import Any, Callable, Iterator, Sequence
 
 from cdc6600.asking.library import DECLARATIONS, declarations
 from cdc6600.limits import MOST_INSTRUCTIONS
@@ -59,7 +61,7 @@ BUILDING = re.compile(r"    ((?:cc|rustc) .*)")
 WRAPPED = "-Wl,--wrap=malloc -Wl,--wrap=realloc -Wl,--wrap=free"
 COMPILER = f"cc -Wall -Wextra -Werror -I out {WRAPPED} -o out/refused_memory"
 # Where the constants of the version stand, beside the library's: in the program and in the header.
-VERSIONS = (
+VERSIONS: tuple[tuple[str | Path, str], ...] = (
     ("crates/command_line/src/version.rt", r'const VERSION: &str = "(.*)";'),
     (HEADER.relative_to(ROOT), r'#define CDC6600_VERSION "(.*)"'),
 )
@@ -70,7 +72,7 @@ PACKAGED = (
     "$(pkg-config --libs cdc6600)"
 )
 # Words for the examples, with how these end: the status, and what the line of the fault has.
-WRONG_WORDS = (
+WRONG_WORDS: tuple[tuple[str, list[str | Path], int, bytes], ...] = (
     ("run", [], 2, b"usage"), ("run", ["nowhere"], 7, b"nowhere: "), ("run", ["/"], 7, b"/: "),
     ("step", [], 2, b"usage"), ("step", ["nowhere", "40"], 7, b"nowhere: "),
     ("step", [PAGE, "40"], 1, b"cdc6600: E20 line 1: first"),
@@ -84,12 +86,12 @@ class Unbuilt(Exception):
 class Room:
     """A folder in which the commands of the page run: it has the folders that they name, and `out`."""
 
-    def __init__(self, folder):
+    def __init__(self, folder: str) -> None:
         self.folder = Path(folder)
         for name in ("crates", "decks", "tools"):
             (self.folder / name).symlink_to(ROOT / name)
 
-    def build(self):
+    def build(self) -> None:
         """Builds the library, if CDC6600_LIBRARY names none, and all that the page builds over it."""
         named = os.environ.get("CDC6600_LIBRARY")
         if not named and subprocess.run([ROOT / "tools/build-library", KEPT], check=False).returncode:
@@ -101,49 +103,48 @@ class Room:
             self.run(command[1])
         self.run(f"{COMPILER} tools/cdc6600/checks/refused_memory.c out/libcdc6600.a")
 
-    def run(self, command):
+    def run(self, command: str) -> None:
         """Runs a command that has to end well."""
         ran = run(["sh", "-c", command], cwd=self.folder, capture_output=True, text=True)
         if ran.returncode:
             raise Unbuilt(f"{command}: {ran.stderr.strip()}")
 
-    def ran(self, *words):
+    def ran(self, *words: Any) -> Ran:
         """How a program of `out` ends."""
-        words = [self.folder / "out" / words[0], *words[1:]]
-        ran = run(words, cwd=ROOT, capture_output=True)
+        ran = run([self.folder / "out" / words[0], *words[1:]], cwd=ROOT, capture_output=True)
         return Ran(ran.returncode, ran.stdout, ran.stderr)
 
 
-def library(file):
+def library(file: Path) -> Any:
     """The library, by the class of the example in Python, whose other class kept_machine gets."""
     kept_machine.Machine = declarations().Machine
     return declarations().Library(file)
 
 
-def called(function, *given):
+def called(function: Callable[..., Any], *given: Any) -> Ran:
     """How a call of the library ends, as a run of the program does."""
     printed, told, status = function(*given)
     return Ran(status, printed, told)
 
 
-def differing(what, wanted, came):
+def differing(what: str, wanted: Any, came: Any) -> list[str]:
     """A fault where a call ends otherwise than is wanted."""
     return [] if wanted == came else [f"{what}: wanted {tuple(wanted)}, and not {tuple(came)}"]
 
 
-def budget_of(it):
+def budget_of(it: Any) -> list[int]:
     """The budget among the further arguments of a deck's run, if there is one."""
     return [int(words[1]) for words in pairwise(it.arguments) if words[0] == "--budget"]
 
 
-def faults_of_deck(room, functions, it):
+def faults_of_deck(room: Room, functions: Any, it: Any) -> list[str]:
     """Lists, runs and replays a deck, by the functions and by the example in C; the faults."""
     if it.dump is None:
         refused = Ran(it.status, NOTHING, it.told)
         faults = differing(f"list {it}", refused, called(functions.list, it.text))
         faults += differing(f"run {it}", refused, called(functions.run, it.text))
         return faults + differing(f"out/run {it}", refused, room.ran("run", it.file, "none"))
-    log, budget = log_of(it.dump), budget_of(it)
+    log, budget = log_of(it.dump) or "", budget_of(it)
     wanted = Ran(it.status, it.dump, it.told)
     faults = differing(f"run {it}", wanted, called(functions.run, it.text, *budget))
     if not budget:
@@ -155,51 +156,51 @@ def faults_of_deck(room, functions, it):
     return faults
 
 
-def faults_of_session(room, functions, it):
+def faults_of_session(room: Room, functions: Any, it: Any) -> list[str]:
     """Answers the events of a session, by the function and by the example in Rust; the faults."""
     wanted = Ran(0, it.answers, NOTHING)
     faults = differing(f"events {it}", wanted, called(functions.events, it.text))
     return faults + differing(f"out/events {it}", wanted, room.ran("events", it.file))
 
 
-def faults_of_refusal(functions, text, fault):
+def faults_of_refusal(functions: Any, text: str, fault: str) -> list[str]:
     """A row of refusals.md, a deck with its line and fault; the faults."""
     shown = text.replace("\\n", "\n").replace("\\r", "\r").encode()
     wanted = Ran(1, NOTHING, f"cdc6600: E20 line {fault}\n".encode())
     return differing(f"the deck {text}", wanted, called(functions.list, shown))
 
 
-def faults_of_arguments(functions):
+def faults_of_arguments(functions: Any) -> list[str]:
     """Logs and budgets at their edges; the faults."""
     it, asked = deck("two-adds"), session("conflicts")
     faults = []
     for log in (b"I0", b"", b"\xff", b"E40 I6\x00"):
-        faults += differing(f"the log {log}", BAD_LOG, called(functions.replay, it.text, log))
+        faults += differing(f"the log {log!r}", BAD_LOG, called(functions.replay, it.text, log))
     outside = Ran(2, NOTHING, b"cdc6600: E19 package range\n")
     faults += differing("the log E777", outside, called(functions.replay, it.text, b"E777"))
     for budget in (0, MOST_INSTRUCTIONS + 1, 2**64 - 1):
         faults += differing(f"the budget {budget}", BAD_BUDGET, called(functions.events, asked.text, budget))
         faults += differing(f"a run with the budget {budget}", BAD_BUDGET, called(functions.run, it.text, budget))
     largest = called(functions.events, asked.text, MOST_INSTRUCTIONS)
-    return faults + differing("the largest budget", Ran(0, asked.answers, NOTHING), largest)
+    return faults + differing("the largest budget", Ran(0, asked.answers or NOTHING, NOTHING), largest)
 
 
-def faults_of_capacities(functions):
+def faults_of_capacities(functions: Any) -> list[str]:
     """Calls with room for nothing, for a part, for all and for more; the faults."""
-    it, faults = deck("two-adds"), []
-    function = functions.library.cdc6600_list
-    for capacity in (0, 1, len(it.listing) - 1, len(it.listing), len(it.listing) + 1):
+    it, faults = deck("two-adds"), list[str]()
+    function, listing = functions.library.cdc6600_list, it.listing or NOTHING
+    for capacity in (0, 1, len(listing) - 1, len(listing), len(listing) + 1):
         room = ctypes.create_string_buffer(b"-" * (capacity + 8), capacity + 8)
         line = ctypes.create_string_buffer(1)
         lengths = [ctypes.c_size_t(length) for length in (len(it.text), capacity, 0)]
         came = function(it.text, lengths[0], room, lengths[1], line, lengths[2])
-        wanted = it.listing[:capacity].ljust(capacity + 8, b"-")
+        wanted = listing[:capacity].ljust(capacity + 8, b"-")
         ended = (came.printed, came.told, came.status)
-        faults += differing(f"list with room for {capacity}", ((len(it.listing), 0, 0), wanted), (ended, room.raw))
+        faults += differing(f"list with room for {capacity}", ((len(listing), 0, 0), wanted), (ended, room.raw))
     return faults
 
 
-def faults_of_version(functions):
+def faults_of_version(functions: Any) -> list[str]:
     """The version of the program, the header and the library, unless they are one."""
     version, faults = functions.version().decode(), []
     for name, pattern in VERSIONS:
@@ -208,7 +209,7 @@ def faults_of_version(functions):
     return faults
 
 
-def faults_of_declarations():
+def faults_of_declarations() -> list[str]:
     """The functions that a language's declarations lack of those of the header, or have besides."""
     header = set(re.findall(r"\b(cdc6600_\w+)\(", HEADER.read_text(encoding="utf-8")))
     rust = set(re.findall(r"fn (cdc6600_\w+)", DECLARATIONS.with_suffix(".rs").read_text(encoding="utf-8")))
@@ -217,7 +218,7 @@ def faults_of_declarations():
     return differing("the functions in Rust", (header,), (rust,)) + differing("those in Python", (header,), (python,))
 
 
-def faults_of_exports(room):
+def faults_of_exports(room: Room) -> list[str]:
     """The soname of the shared library, what it needs besides the C library, and what it exports besides the header's
     functions."""
     shared = room.folder / "out/libcdc6600.so"
@@ -229,7 +230,7 @@ def faults_of_exports(room):
     return faults + differing("the exports", (header,), (sorted(exported),))
 
 
-def stepped(functions, it, address):
+def stepped(functions: Any, it: Any, address: bytes) -> bytes:
     """What the example step.c prints of a deck."""
     with kept_machine.Machine(functions) as machine:
         machine.boot(it.text)
@@ -241,31 +242,31 @@ def stepped(functions, it, address):
         return b"".join([*lines, machine.log()[0] + b"\n", *registers])
 
 
-def faults_of_examples(room, functions):
+def faults_of_examples(room: Room, functions: Any) -> list[str]:
     """The examples in C with wrong words, with an output that can't be written, and a machine by steps."""
     faults, it = [], deck("two-adds")
     for name, words, status, begin in WRONG_WORDS:
-        ran = room.ran(name, *words)
-        faults += differing(f"out/{name} {words}", (status, True), (ran.status, ran.told.startswith(begin)))
+        came = room.ran(name, *words)
+        faults += differing(f"out/{name} {words}", (status, True), (came.status, came.told.startswith(begin)))
     wanted = Ran(0, stepped(functions, it, b"40"), NOTHING)
     faults += differing(f"out/step {it} 40", wanted, room.ran("step", it.file, "40"))
     long = room.folder / "long.deck"
     long.write_bytes(it.text + b"x" * 3_000_000)
-    faults += differing("out/run of a long file", Ran(0, it.dump, NOTHING), room.ran("run", long))
-    for words in (["run", it.file], ["step", it.file, "40"]):
+    faults += differing("out/run of a long file", Ran(0, it.dump or NOTHING, NOTHING), room.ran("run", long))
+    for program, *given in (("run", str(it.file)), ("step", str(it.file), "40")):
         with open("/dev/full", "wb") as full:
-            ran = run([room.folder / "out" / words[0], *words[1:]], stdout=full, stderr=subprocess.PIPE)
-        faults += differing(f"{words} to /dev/full", (7, 1), (ran.returncode, ran.stderr.count(b"\n")))
+            ran = run([room.folder / "out" / program, *given], stdout=full, stderr=subprocess.PIPE)
+        faults += differing(f"{program} {given} to /dev/full", (7, 1), (ran.returncode, ran.stderr.count(b"\n")))
     return faults
 
 
 class Python:
     """The example in Python, as a program."""
 
-    def __init__(self, room):
+    def __init__(self, room: Room) -> None:
         self.words, self.library = [sys.executable, str(DECLARATIONS)], str(room.folder / "out/libcdc6600.so")
 
-    def faults(self, room):
+    def faults(self, room: Room) -> list[str]:
         """How it ends with wrong words, and where its output can't be written; the faults."""
         it, missing, faults = deck("two-adds"), str(room.folder / "missing"), []
         for words, status in (([], 2), ([missing, "x"], 7), ([str(it.file), str(it.file)], 7),
@@ -278,15 +279,17 @@ class Python:
         faults += self.ended(good, 7, preexec_fn=lambda: os.close(1))
         faults += self.ended([], 2, preexec_fn=lambda: os.close(2), lines=0)
         ran = run([*self.words, *good], capture_output=True)
-        faults += differing("cdc6600.py", Ran(0, it.dump, NOTHING), Ran(ran.returncode, ran.stdout, ran.stderr))
+        came = Ran(ran.returncode, ran.stdout, ran.stderr)
+        faults += differing("cdc6600.py", Ran(0, it.dump or NOTHING, NOTHING), came)
         return faults + self.interrupted(room) + self.unread(good)
 
-    def ended(self, words, status, lines=1, **streams):
+    def ended(self, words: Any, status: int, lines: int = 1, **streams: Any) -> list[str]:
         """Calls it; a fault if it ends with another status, or tells more than a line or none."""
-        ran = run([*self.words, *words], stderr=subprocess.PIPE, **{"stdout": subprocess.DEVNULL, **streams})
+        streams = {"stdout": subprocess.DEVNULL, **streams}
+        ran = run([*self.words, *words], stderr=subprocess.PIPE, **streams)
         return differing(f"cdc6600.py {words}", (status, lines), (ran.returncode, ran.stderr.count(b"\n")))
 
-    def interrupted(self, room):
+    def interrupted(self, room: Room) -> list[str]:
         """Interrupts it while it reads."""
         pipe = room.folder / "pipe"
         os.mkfifo(pipe)
@@ -296,7 +299,7 @@ class Python:
                 told = process.communicate()[1]
         return differing("cdc6600.py interrupted", (-signal.SIGINT, NOTHING), (process.returncode, told))
 
-    def unread(self, good):
+    def unread(self, good: list[str]) -> list[str]:
         """Has nobody read what it prints."""
         reader, writer = os.pipe()
         os.close(reader)
@@ -305,43 +308,45 @@ class Python:
         return differing("cdc6600.py unread", (-signal.SIGPIPE, NOTHING), (ran.returncode, ran.stderr))
 
 
-def faults_of_installing(room):
+def faults_of_installing(room: Room) -> list[str]:
     """Installs the library alone, builds an example with what pkg-config says, and removes it."""
     prefix = room.folder / "prefix"
-    words = {"cwd": room.folder, "capture_output": True, "text": True}
+    how: dict[str, Any] = {"cwd": room.folder, "capture_output": True, "text": True}
     environment = {**os.environ, "CDC6600_LIBRARY": str(room.folder / "out"), "PREFIX": str(prefix),
                    "PKG_CONFIG_PATH": str(prefix / "lib/pkgconfig")}
     faults, it = [], deck("two-adds")
-    for command in ([ROOT / "tools/install", *LIBRARY_ALONE, prefix], ["sh", "-c", PACKAGED]):
-        ran = run(command, env=environment, **words)
+    commands: list[list[str | Path]] = [[ROOT / "tools/install", *LIBRARY_ALONE, prefix], ["sh", "-c", PACKAGED]]
+    for command in commands:
+        ran = run(command, env=environment, **how)
         faults += differing(f"{command}", (0, "", ""), (ran.returncode, ran.stdout, ran.stderr))
     if not faults:
-        faults += differing("out/packaged", Ran(0, it.dump, NOTHING), room.ran("packaged", it.file))
-    run([ROOT / "tools/install", "--uninstall", prefix], env=environment, **words)
+        faults += differing("out/packaged", Ran(0, it.dump or NOTHING, NOTHING), room.ran("packaged", it.file))
+    run([ROOT / "tools/install", "--uninstall", prefix], env=environment, **how)
     return faults + [f"--uninstall leaves {file}" for file in sorted(prefix.rglob("*"))]
 
 
-def faults_of_memory(room, it):
+def faults_of_memory(room: Room, it: Any) -> list[str]:
     """Each request for memory refused in turn; the faults."""
     came = room.ran("refused_memory", it.file, log_of(it.answers) or "none")
     return [] if came == Ran(0, NOTHING, NOTHING) else [f"{it}: {line}" for line in came.printed.decode().splitlines()]
 
 
-def faults_of_leaks(room):
+def faults_of_leaks(room: Room) -> list[str]:
     """What valgrind says of a machine by steps, if valgrind is there."""
     if not shutil.which("valgrind"):
         return []
     words = ["valgrind", "-q", "--leak-check=full", "--error-exitcode=9"]
-    words += [room.folder / "out/step", deck("two-adds").file]
-    ran = run([*words, "40"], capture_output=True, text=True)
+    ran = run([*words, room.folder / "out/step", deck("two-adds").file, "40"], capture_output=True, text=True)
     return differing("valgrind of out/step", (0, ""), (ran.returncode, ran.stderr))
 
 
-def fault_of_small_stack(functions, listed, replayed, asked):
+def fault_of_small_stack(
+    functions: Any, listed: Sequence[bytes], replayed: Sequence[tuple[bytes, bytes]], asked: Sequence[bytes]
+) -> list[str]:
     """The calls for some decks and sessions again, by a thread with a stack of 64 KiB; a fault if one doesn't end."""
-    ended = []
+    ended = list[int]()
 
-    def call_all():
+    def call_all() -> None:
         ended.extend(functions.list(it)[2] for it in listed)
         ended.extend(functions.run(it)[2] for it in listed)
         ended.extend(functions.replay(text, log)[2] for text, log in replayed)
@@ -356,28 +361,25 @@ def fault_of_small_stack(functions, listed, replayed, asked):
     return [] if len(ended) == wanted else [f"with a small stack {len(ended)} calls of {wanted} end"]
 
 
-def works(room, functions):
+def works(room: Room, functions: Any) -> Iterator[Callable[[], list[str]]]:
     """All that is tried, each as a call that gives its faults."""
-    for it in decks():
-        yield lambda it=it: faults_of_deck(room, functions, it)
+    for each in decks():
+        yield partial(faults_of_deck, room, functions, each)
     for it in sessions():
-        yield lambda it=it: faults_of_session(room, functions, it)
-        yield lambda it=it: faults_of_memory(room, it)
+        yield partial(faults_of_session, room, functions, it)
+        yield partial(faults_of_memory, room, it)
     for text, fault, _ in rows_of(PAGES / "refusals.md"):
-        yield lambda text=text, fault=fault: faults_of_refusal(functions, text, fault)
-    yield lambda: faults_of_arguments(functions)
-    yield lambda: faults_of_capacities(functions)
-    yield lambda: faults_of_version(functions)
+        yield partial(faults_of_refusal, functions, text, fault)
+    for of_functions in (faults_of_arguments, faults_of_capacities, faults_of_version):
+        yield partial(of_functions, functions)
+    for of_room in (faults_of_exports, faults_of_installing, faults_of_leaks, Python(room).faults):
+        yield partial(of_room, room)
     yield faults_of_declarations
-    yield lambda: faults_of_exports(room)
-    yield lambda: faults_of_examples(room, functions)
-    yield lambda: Python(room).faults(room)
-    yield lambda: faults_of_installing(room)
-    yield lambda: faults_of_leaks(room)
+    yield partial(faults_of_examples, room, functions)
     yield from kept_machine.works(lambda: kept_machine.Machine(functions), functions, decks(), sessions())
 
 
-def main():
+def main() -> int:
     with tempfile.TemporaryDirectory() as folder:
         room = Room(folder)
         try:
@@ -387,7 +389,7 @@ def main():
         functions = library(room.folder / "out/libcdc6600.so")
         with ThreadPoolExecutor() as pool:
             found = list(pool.map(faults_found, works(room, functions)))
-        replayed = [(it.text, log_of(it.dump).encode()) for it in decks() if it.dump]
+        replayed = [(it.text, (log_of(it.dump) or "").encode()) for it in decks() if it.dump]
         asked = [it.text for it in sessions()]
         found.append(fault_of_small_stack(functions, [it.text for it in decks()], replayed, asked))
     return tell([fault for faults in found for fault in faults])

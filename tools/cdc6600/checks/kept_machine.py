@@ -3,13 +3,15 @@
 import random
 import re
 from dataclasses import dataclass
+from functools import partial
+from typing import Any, Callable, Iterable, Iterator, Sequence
 
 from cdc6600.asking.states import CHANNELS, PLACES
 from cdc6600.drawing.following import Session
 from cdc6600.drawing.units import NAMES
 from cdc6600.limits import BANKS
-from cdc6600.shared.decks import deck, log_of, session
-from cdc6600.shared.program import Ran
+from cdc6600.shared.decks import Deck, deck, log_of, session
+from cdc6600.shared.program import Program, Ran
 
 from .drawn_sessions import DrawnDeck, Driver
 from .judging_by_rules import Judge, text_now
@@ -88,41 +90,42 @@ SEEDS, DRAWN_EVENTS = range(8), 100
 WITHOUT_HOLDERS = ("E2", "E13")
 
 # The class Machine of the example in Python, which tools/check embedding loads.
-Machine = None
+Machine: Any = None
+# How a machine of that class, or one like it, is made.
+Make = Callable[[], Any]
 
 
-class Program:
+class Functions(Program):
     """The library's functions in the form in which the second reading asks the program."""
 
-    path = "the library"
-
-    def __init__(self, functions):
+    def __init__(self, functions: Any) -> None:
+        super().__init__("the library")
         self.functions = functions
 
-    def replay(self, log, text):
+    def replay(self, log: str, text: bytes) -> Ran:
         """Replays a log on a deck."""
         printed, told, status = self.functions.replay(text, log.encode())
         return Ran(status, printed, told)
 
-    def run(self, words, text):
+    def run(self, words: Sequence[str], text: bytes = b"", *_how: object) -> Ran:
         """Lists a deck, or answers a session."""
         printed, told, status = getattr(self.functions, words[0])(text)
         return Ran(status, printed, told)
 
 
-def differing(what, wanted, came):
+def differing(what: str, wanted: object, came: object) -> list[str]:
     """A fault where a call answers otherwise than is wanted."""
     return [] if wanted == came else [f"{what}: wanted {wanted}, and not {came}"]
 
 
-def octal(words):
+def octal(words: Any) -> list[int]:
     return [int(word, 8) for word in words]
 
 
 class Shown:
     """What a dump says of registers and words."""
 
-    def __init__(self, dump):
+    def __init__(self, dump: bytes) -> None:
         lines = [line.split() for line in dump.decode().splitlines()]
         named = {line[0]: line[1:] for line in lines}
         self.x = [int(named[f"X{n}"][0], 8) for n in range(8)]
@@ -133,7 +136,7 @@ class Shown:
         self.words = [(int(line[1], 8), int(line[2], 8)) for line in lines if line[0] == "M"]
 
 
-def faults_of_shown(what, machine, dump):
+def faults_of_shown(what: str, machine: Any, dump: bytes) -> list[str]:
     """What a drained machine tells otherwise than its dump says."""
     faults = differing(f"the dump of {what}", (dump, b"", 0), machine.dump())
     shown, (registers, status) = Shown(dump), machine.registers()
@@ -149,7 +152,7 @@ def faults_of_shown(what, machine, dump):
     return faults + differing(f"the words past the end of {what}", ([], 0), machine.words(len(every), 3))
 
 
-def faults_of_events(make, it):
+def faults_of_events(make: Make, it: Any) -> list[str]:
     """Makes the events of a session one by one; what is answered otherwise than `events` answers."""
     with make() as machine:
         faults, answers = differing(f"boot {it}", (b"", 0), machine.boot(it.text)), b""
@@ -162,14 +165,14 @@ def faults_of_events(make, it):
             faults += differing(f"{it}, drain", True, machine.drain() <= 40)
         faults += differing(f"the answers of {it}", it.answers[: len(answers)], answers)
         rest = it.answers[len(answers) :]
-        faults += differing(f"the log of {it}", (log_of(rest).encode(), b"", 0), machine.log())
+        faults += differing(f"the log of {it}", ((log_of(rest) or "").encode(), b"", 0), machine.log())
         faults += differing(f"whether {it} is drained", not rest.startswith(b"NOT DRAINED"), machine.is_drained())
         if machine.is_drained():
             return faults + faults_of_shown(it, machine, rest)
         return faults + differing(f"the dump of {it}, which isn't drained", (b"", b"", NOT_DRAINED), machine.dump())
 
 
-def contents_of(judge):
+def contents_of(judge: Judge) -> dict[str, list[str]]:
     """The lines that tell the contents of each part of a machine in the state of a judge, but for the words of the
     channels; those of the next instruction if no branch is pending."""
     state, rows = judge.state, judge.rows
@@ -191,20 +194,20 @@ def contents_of(judge):
     return found if "branch" in state.units else {**found, "next_instruction": [next_line(judge)]}
 
 
-def unread_lines(judge, row):
+def unread_lines(judge: Judge, row: int) -> list[str]:
     """The lines of the operands that a reservation is still to read, each once, without B0."""
     writers = dict(judge.awaited(row))
     operands = operands_of(judge.rows[row].text)
     return [" ".join(map(str, [row, it, *([writers[it]] if it in writers else [])])) for it in operands]
 
 
-def next_line(judge):
+def next_line(judge: Judge) -> str:
     """The line of the instruction that is issued next."""
     p, parcel = judge.replays.number(judge.log, 0, 1), judge.replays.field(judge.log, 0, 3)
     return f"{p:o} {parcel} {text_now(judge) or '?fetch'}"
 
 
-def lines_of_contents(machine, part):
+def lines_of_contents(machine: Any, part: str) -> list[str]:
     """The lines that the library prints of a part; of a channel without its word, and of operands without B0 and what
     comes twice."""
     lines = lines_of(machine.contents(part))
@@ -213,13 +216,13 @@ def lines_of_contents(machine, part):
     return [re.sub(r"^(\d \d+) [0-7]{20} ", r"\1 ", line) for line in lines] if part == "channels" else lines
 
 
-def lines_of(came):
+def lines_of(came: tuple[bytes, bytes, int]) -> list[str]:
     """The lines that a call prints, or how it fails."""
     printed, told, status = came
-    return printed.decode().splitlines() if (told, status) == (b"", 0) else [f"status {status}, {told}"]
+    return printed.decode().splitlines() if (told, status) == (b"", 0) else [f"status {status}, {told!r}"]
 
 
-def judgement_of(judge, event, number):
+def judgement_of(judge: Judge, event: str, number: int) -> list[str]:
     """The lines of the judgement of an event: its answer, and the reservations that hold it back. An issue to a unit
     would get this number."""
     refusal = judge.refusal(event)
@@ -228,21 +231,21 @@ def judgement_of(judge, event, number):
     return [refusal.answer, *(str(row) for row in refusal.rows if refusal.code not in WITHOUT_HOLDERS)]
 
 
-def answer_of(judge, event, number):
+def answer_of(judge: Judge, event: str, number: int) -> str:
     """The answer to an event that is made."""
     kind, *fields = event.split(" ")
     if kind == "ppread":
         return f"ok {judge.replays.word(judge.log, fields[0])}"
-    units = KINDS.get(kind_of(judge.next_text), ()) if kind == "issue" else ()
+    units = KINDS.get(kind_of(judge.next_text) or "", ()) if kind == "issue" else ()
     free = [unit for unit in units if unit not in judge.state.units]
     return f"ok {free[0]} {number}" if free else "ok"
 
 
-def faults_of_contents(make, functions, it):
+def faults_of_contents(make: Make, functions: Any, it: Any) -> list[str]:
     """The contents of the parts of a machine after each event of a session, and how it judges events then, against the
     second reading of the rules, which follows the answers."""
     session = Session(str(it), it.text.decode("latin-1"))
-    faults, reading, answers = [], Reading(Program(functions), session), functions.events(it.text)[0].decode()
+    faults, reading, answers = [], Reading(Functions(functions), session), functions.events(it.text)[0].decode()
     with make() as machine:
         machine.boot(it.text)
         for n, (event, answer) in enumerate(zip(session.events, answers.splitlines())):
@@ -261,7 +264,7 @@ def faults_of_contents(make, functions, it):
     return faults
 
 
-def faults_of_judging(after, machine, judge, number):
+def faults_of_judging(after: str, machine: Any, judge: Judge, number: int) -> list[str]:
     """How a machine judges events, against the second reading. An issue to a unit would get this number."""
     faults = []
     for event in (*JUDGED, *re.findall("^start [0-7]+$", judge.replays.session.text, re.MULTILINE)):
@@ -278,11 +281,11 @@ class Unstored:
     name: str
     text: bytes
 
-    def __str__(self):
+    def __str__(self) -> str:
         return self.name
 
 
-def drawn_session(make, seed):
+def drawn_session(make: Make, seed: int) -> Unstored:
     """A session whose deck and events are drawn, by what a machine answers to the events before."""
     draw = random.Random(seed)
     deck, events = DrawnDeck(draw).text(), []
@@ -295,7 +298,12 @@ def drawn_session(make, seed):
     return Unstored(f"the drawn session {seed}", "\n".join([*deck.splitlines(), *events, "end", ""]).encode())
 
 
-def faults_of_arrival(make):
+def faults_of_drawn_session(make: Make, functions: Any, seed: int) -> list[str]:
+    """The contents of the parts, and the judgements, after each event of a drawn session."""
+    return faults_of_contents(make, functions, drawn_session(make, seed))
+
+
+def faults_of_arrival(make: Make) -> list[str]:
     """The words of loads that wait in their channels, and that a word is held while its instructions are issued."""
     it = session("one-word")
     with make() as machine:
@@ -308,7 +316,7 @@ def faults_of_arrival(make):
                          (machine.contents("channels")[0].decode().splitlines(), held.has_held, held.opcode))
 
 
-def faults_of_opcodes(make):
+def faults_of_opcodes(make: Make) -> list[str]:
     """The refused opcode by which a run halted."""
     faults = []
     for parcels, opcode in (("30000", 0o300), ("01100", 0o11), ("01300", 0o13)):
@@ -321,11 +329,11 @@ def faults_of_opcodes(make):
     return faults
 
 
-def faults_of_advancing(make, it):
+def faults_of_advancing(make: Make, it: Any) -> list[str]:
     """Runs a deck by one call that advances, and by calls of at most seven events: they end as its run does."""
     if not is_short(it):
         return []
-    first, faults = b"ask " + re.search(rb"^start (\d+)", it.text, re.MULTILINE)[1], []
+    first, faults = asking(it.text), list[str]()
     for most in (10_000_000, 7):
         with make() as machine:
             machine.boot(it.text)
@@ -336,7 +344,7 @@ def faults_of_advancing(make, it):
     return faults
 
 
-def faults_of_stopping(make):
+def faults_of_stopping(make: Make) -> list[str]:
     """An advance stops, drained, each of the three times that the loop at 1 begins, and then at the end."""
     stops = []
     with make() as machine:
@@ -348,7 +356,7 @@ def faults_of_stopping(make):
     return differing("the stops of a loop", [(1, 0, 3, True), (1, 0, 2, True), (1, 0, 1, True), (2, 0, 0, True)], stops)
 
 
-def faults_of_moments(make):
+def faults_of_moments(make: Make) -> list[str]:
     """Registers and words between the events of a session, which follow the effects made so far: a load sets its
     register when it returns, and a store its word when the bank accepts it."""
     it, faults, loaded, stored = session("one-word"), [], 0, 1
@@ -364,19 +372,24 @@ def faults_of_moments(make):
     return faults
 
 
-def is_short(it):
+def asking(deck: bytes) -> bytes:
+    """The event that asks for the first exchange of a deck."""
+    return next(line.replace(b"start", b"ask") for line in deck.splitlines() if line.startswith(b"start "))
+
+
+def is_short(it: Any) -> bool:
     """Whether a deck's run asks for no later exchange and can be made event by event."""
     if it.dump is None or it.arguments or re.search(rb"^ask ", it.text, re.MULTILINE):
         return False
-    return sum(map(int, re.findall(r"\bI(\d+)", log_of(it.dump)))) <= MOST_INSTRUCTIONS
+    return sum(int(count) for count in re.findall(r"\bI(\d+)", log_of(it.dump) or "")) <= MOST_INSTRUCTIONS
 
 
-def faults_of_next(make, events, it):
+def faults_of_next(make: Make, events: Callable[[bytes], Any], it: Any) -> list[str]:
     """Runs a deck by one next event after another: it ends as the deck's run does, and its lines are a session with
     these answers."""
     if not is_short(it):
         return []
-    first = b"ask " + re.search(rb"^start (\d+)", it.text, re.MULTILINE)[1]
+    first = asking(it.text)
     with make() as machine:
         machine.boot(it.text)
         lines, answers, is_made = [first], machine.event(first)[0], True
@@ -386,26 +399,26 @@ def faults_of_next(make, events, it):
             is_made = answer.startswith(b"ok")
             lines, answers = [*lines, line], answers + answer
             if (told, status) != (b"", 0):
-                return [f"{it}: the event after {line} ends with {status}"]
+                return [f"{it}: the event after {line!r} ends with {status}"]
         faults = faults_of_shown(f"{it} by next events", machine, it.dump)
     asked = it.text + b"".join(line + b"\n" for line in [*lines, b"end"])
     return faults + differing(f"the events of {it} as a session", (answers + it.dump, b"", 0), events(asked))
 
 
-def faults_of_lines(make):
+def faults_of_lines(make: Make) -> list[str]:
     """Texts that say no event: they are refused, and the machine stays as it is."""
     faults, it = [], session("conflicts")
     with make() as machine:
         machine.boot(it.text)
         for text, fault in NO_EVENTS:
             told = f"cdc6600: E20 line 1: {fault}\n".encode()
-            faults += differing(f"the event {text}", (b"", told, REFUSED), machine.event(text))
-            faults += differing(f"the judgement of {text}", (b"", told, REFUSED), machine.judge(text))
+            faults += differing(f"the event {text!r}", (b"", told, REFUSED), machine.event(text))
+            faults += differing(f"the judgement of {text!r}", (b"", told, REFUSED), machine.judge(text))
         faults += differing("the log after no event", (b"none", b"", 0), machine.log())
     return faults
 
 
-def faults_of_handles(make):
+def faults_of_handles(make: Make) -> list[str]:
     """A handle without a machine, and with one in place of another."""
     it, refused = deck("two-adds"), b"cdc6600: E20 line 1: first\n"
     with make() as machine:
@@ -426,20 +439,19 @@ def faults_of_handles(make):
         return faults + differing("a freed machine", silent, machine.event(b"issue"))
 
 
-def works(make, functions, decks, sessions):
+def works(
+    make: Make, functions: Any, decks: Iterable[Deck], sessions: Iterable[Any]
+) -> Iterator[Callable[[], list[str]]]:
     """All that is tried, each as a call that gives its faults."""
     for it in sessions:
-        yield lambda it=it: faults_of_events(make, it)
-        yield lambda it=it: faults_of_contents(make, functions, it)
-    yield lambda: faults_of_contents(make, functions, Unstored("a result with a later reader", LATER_READER))
+        yield partial(faults_of_events, make, it)
+        yield partial(faults_of_contents, make, functions, it)
+    yield partial(faults_of_contents, make, functions, Unstored("a result with a later reader", LATER_READER))
     for seed in SEEDS:
-        yield lambda seed=seed: faults_of_contents(make, functions, drawn_session(make, seed))
-    for it in decks:
-        yield lambda it=it: faults_of_next(make, functions.events, it)
-        yield lambda it=it: faults_of_advancing(make, it)
-    yield lambda: faults_of_arrival(make)
-    yield lambda: faults_of_opcodes(make)
-    yield lambda: faults_of_stopping(make)
-    yield lambda: faults_of_moments(make)
-    yield lambda: faults_of_lines(make)
-    yield lambda: faults_of_handles(make)
+        yield partial(faults_of_drawn_session, make, functions, seed)
+    for deck_ in decks:
+        yield partial(faults_of_next, make, functions.events, deck_)
+        yield partial(faults_of_advancing, make, deck_)
+    for work in (faults_of_arrival, faults_of_opcodes, faults_of_stopping, faults_of_moments, faults_of_lines,
+                 faults_of_handles):
+        yield partial(work, make)

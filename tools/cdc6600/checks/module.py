@@ -28,6 +28,7 @@ import tempfile
 from hashlib import sha256
 from itertools import pairwise
 from pathlib import Path
+from typing import Any, Iterable
 
 from cdc6600.building.building import Unproved
 from cdc6600.building.library import BITCODE, HEADER, KEPT
@@ -69,11 +70,11 @@ THROWN = re.compile(r"^\w*Error: .*", re.MULTILINE)
 VERSION = re.compile(r'^#define CDC6600_VERSION "(.*)"', re.MULTILINE)
 
 
-def read(file):
+def read(file: Path) -> str:
     return file.read_text(encoding="utf-8")
 
 
-def with_limit(data, pages):
+def with_limit(data: bytes, pages: int) -> bytes:
     """A module whose memory has at most so many pages, fewer than 128."""
     found = data[:8]
     for kind, section in sections(data):
@@ -88,16 +89,16 @@ def with_limit(data, pages):
 class Tried:
     """The tries with a module in Node, and the faults that they found."""
 
-    def __init__(self, node, program, name):
-        self.node, self.program, self.name, self.faults = node, program, name, []
+    def __init__(self, node: Node, program: Program, name: str) -> None:
+        self.node, self.program, self.name, self.faults = node, program, name, list[str]()
 
-    def add(self, faults):
+    def add(self, faults: Iterable[str]) -> None:
         self.faults += [f"{self.name}: {it}"[:LONGEST_FAULT] for it in faults]
 
-    def compare(self, what, wanted, came):
+    def compare(self, what: str, wanted: object, came: object) -> None:
         self.add(differing(what, wanted, came))
 
-    def names(self):
+    def names(self) -> None:
         """The functions and the members, each list as another file has it."""
         every, types, header = sorted([*calls(), *OF_HEAP]), read(TYPES), read(HEADER)
         self.compare("the imports", [], self.node.ask("imports")["names"])
@@ -110,9 +111,9 @@ class Tried:
         self.compare(f"the members of {TYPES.name}", members, found)
         budgets = [int(it) for it in BUDGETS.findall(header)]
         self.compare("the budgets", budgets, self.node.ask("constants")["budgets"])
-        self.compare("the version", VERSION.search(header)[1], self.node.ask("version").get("printed"))
+        self.compare("the version", VERSION.findall(header), [self.node.ask("version").get("printed")])
 
-    def deck(self, it):
+    def deck(self, it: Any) -> None:
         """Lists, runs and replays a deck."""
         budget = [int(words[1]) for words in pairwise(it.arguments) if words[0] == "--budget"]
         words = [word for number in budget for word in ("--budget", str(number))]
@@ -123,15 +124,15 @@ class Tried:
         wanted = self.program.replay(log, it.text)
         self.compare(f"replay {it}", wanted, self.node.call("replay", it.text, log.encode()))
 
-    def session(self, it):
+    def session(self, it: Any) -> None:
         self.compare(f"events {it}", self.program.run(["events"], it.text), self.node.call("events", it.text))
 
-    def kept_machines(self):
+    def kept_machines(self) -> None:
         """The calls of tools/check embedding with a machine that is kept."""
         for work in kept_machine.works(lambda: Machine(self.node), Functions(self.node), decks(), sessions()):
             self.add(work())
 
-    def texts(self):
+    def texts(self) -> None:
         """Strings and bytes, and output that needs more room than a call has at first."""
         it = deck("two-adds")
         self.compare("a deck as a string", self.node.call("run", it.text), self.node.call("run", it.text.decode()))
@@ -142,7 +143,7 @@ class Tried:
         came = self.node.ask("library", "list", "core 0\n")
         self.compare("the message of an error", came["told"], f"cdc6600: {came['message']}\n")
 
-    def arguments(self):
+    def arguments(self) -> None:
         """Budgets, logs and arguments that are refused."""
         text, asked = deck("two-adds").text.decode(), session("conflicts").text
         for budget in (0, -1, MOST_INSTRUCTIONS + 1, 2**64 - 1, 2**64, 2**64 + 5):
@@ -152,15 +153,16 @@ class Tried:
         for log in ("", "I0", b"\xff"):
             wanted = Ran(USAGE, b"", b"cdc6600: bad log\n")
             self.compare(f"the log {log}", wanted, self.node.call("replay", text, log))
-        for kind, *words in (("TypeError", "list", 5), ("RangeError", "run", text, 0.5), ("TypeError", "replay", text)):
+        calls: list[tuple[Any, ...]] = [("list", 5), ("run", text, 0.5), ("replay", text)]
+        for kind, words in zip(("TypeError", "RangeError", "TypeError"), calls):
             self.compare(f"{words}", kind, self.node.kind("library", *words))
         with Machine(self.node) as machine:
             machine.boot(text)
-            for words in ((-1, 1), (0, -1), (0.5, 1), (2**32, 1), (0, 2**32)):
-                self.compare(f"words {words}", "RangeError", self.node.kind("words", machine.number, *words))
+            for place in ((-1, 1), (0, -1), (0.5, 1), (2**32, 1), (0, 2**32)):
+                self.compare(f"words {place}", "RangeError", self.node.kind("words", machine.number, *place))
             self.compare("words past the end", ([], 0), machine.words(2**32 - 1, 2**32 - 1))
 
-    def tries(self):
+    def tries(self) -> None:
         """What is tried leaves no trace, and what can't be tried is refused."""
         it = session("conflicts")
         with Machine(self.node) as machine:
@@ -178,14 +180,14 @@ class Tried:
             self.compare("after a boot was tried", before, machine.log())
         self.compare("a freed machine", (b"", b"", MISSING), machine.event("issue"))
 
-    def blocks(self):
+    def blocks(self) -> None:
         """Whether all blocks of the memory are freed."""
         self.compare("blocks that aren't freed", 0, self.node.ask("blocks")["count"])
 
-    def whole(self):
+    def whole(self) -> list[str]:
         self.names()
-        for it in decks():
-            self.deck(it)
+        for each in decks():
+            self.deck(each)
         for it in sessions():
             self.session(it)
         for work in (self.kept_machines, self.texts, self.arguments, self.tries, self.blocks):
@@ -193,7 +195,7 @@ class Tried:
         return self.faults
 
 
-def faults_of_full_memory(module, program, room):
+def faults_of_full_memory(module: Any, program: Program, room: Path) -> list[str]:
     """Calls with a memory that is too small for some, and right for those after them."""
     file, it, faults = room / "limited.wasm", deck("two-adds"), []
     file.write_bytes(with_limit(module, FEW_PAGES))
@@ -211,35 +213,36 @@ def faults_of_full_memory(module, program, room):
     return faults
 
 
-def faults_of_heap(room):
+def faults_of_heap(room: Path) -> list[str]:
     """heap.c and memory.c in a module of their own, whose memory has a limit."""
     folder, file = room / "heap", room / "heap.wasm"
     folder.mkdir()
     making = Making(checker().parent.parent, folder)
-    module = making.lowered(making.linked(HEAP, *making.of_sources()))
+    module = making.lowered(making.linked(HEAP, *making.of_sources())) or b""
     file.write_bytes(with_limit(module, PAGES_OF_HEAP))
     came = run(["node", HEAP_TEST, file], capture_output=True, text=True)
     trap = THROWN.findall(came.stderr) or ["it ends with no line of an error"]
-    return came.stdout.splitlines() + [f"the heap: {trap[0]}"] * (came.returncode != 0)
+    return [*came.stdout.splitlines(), *[f"the heap: {trap[0]}"] * (came.returncode != 0)]
 
 
-def faults_of_example(module, program, room):
+def faults_of_example(module: Any, program: Program, room: Path) -> list[str]:
     """The example run.mjs with decks of several statuses, and with wrong words."""
-    faults, words, empty = [], ["node", *flags_for(module), EXAMPLE], room / "empty"
+    faults, empty = list[str](), room / "empty"
+    words: list[str | Path] = ["node", *flags_for(module), EXAMPLE]
     empty.write_bytes(b"")
     for it in {it.status: it for it in decks() if it.status in STATUSES}.values():
         came = run([*words, module, it.file], capture_output=True)
         wanted = program.run(["run", "--sequential"], it.text)
         faults += differing(f"run.mjs {it}", wanted, Ran(came.returncode, came.stdout, came.stderr))
-    for given, status in (([], USAGE), ([module], USAGE), ([module, room / "missing"], UNREADABLE),
-                          ([empty, deck("two-adds").file], UNREADABLE)):
+    for status, *given in ((USAGE,), (USAGE, module), (UNREADABLE, module, room / "missing"),
+                           (UNREADABLE, empty, deck("two-adds").file)):
         came = run([*words, *given], capture_output=True)
         told = (came.returncode, came.stdout, came.stderr.count(b"\n"))
         faults += differing(f"run.mjs {given}", (status, b"", 1), told)
     return faults
 
 
-def faults_of_making(folder):
+def faults_of_making(folder: Path) -> list[str]:
     """The modules that are made once more of the bitcode that was kept, unless the same bytes were found so before."""
     files = [folder / name for name in (WIDE, NARROW) if (folder / name).is_file()]
     found = sha256(b"".join(it.read_bytes() for it in [KEPT / BITCODE, *files])).hexdigest()
@@ -252,7 +255,7 @@ def faults_of_making(folder):
     return [f"{name} has other bytes when it is made once more" for name in differ]
 
 
-def faults_with(folder, room):
+def faults_with(folder: Path, room: Path) -> list[str]:
     """What is wrong with the modules of a folder."""
     program, found = Program(), []
     files = [folder / name for name in (WIDE, NARROW) if (folder / name).is_file()]
@@ -267,7 +270,7 @@ def faults_with(folder, room):
     return found
 
 
-def work():
+def work() -> int:
     named = os.environ.get("CDC6600_MODULE")
     with tempfile.TemporaryDirectory() as name:
         room = Path(name)
@@ -277,5 +280,5 @@ def work():
         return tell(faults_with(room / "made", room) + faults_of_making(room / "made"))
 
 
-def main():
+def main() -> int:
     return ended("tools/check module", work, Missing, Unproved, OSError, subprocess.CalledProcessError)

@@ -29,9 +29,10 @@ import sys
 import tempfile
 import time
 from contextlib import suppress
-from itertools import accumulate, chain, count
+from functools import partial
+from itertools import chain, count
 from pathlib import Path
-from typing import NamedTuple
+from typing import Any, Callable, Iterable, Iterator, NamedTuple, Sequence
 
 from cdc6600.assembling.sources import MOST_LINES
 from cdc6600.drawing.following import Following, Session
@@ -68,13 +69,13 @@ SESSION, DECK, SOURCE = str(SESSIONS / "conflicts.session"), str(FIRST), str(FOL
 # A file without an end, what a tool says of one, and the memory in which it has to say it.
 ENDLESS, TOO_LONG, ENOUGH_MEMORY = "/dev/zero", str(MOST), MOST + 2 * MOST_MEMORY
 # Calls that read a file without an end, with the status of bad input; those that read an endless input by this command.
-ENDLESS_CALLS = (
+ENDLESS_CALLS: tuple[tuple[Any, ...], ...] = (
     (1, "timeline", ENDLESS), (1, "timeline", SESSION, ENDLESS), (1, "beside", ENDLESS),
     (1, "timeline", "--cycles", "--times", ENDLESS, SESSION), (1, "schedule", ENDLESS), (1, "explore", ENDLESS),
     (1, "operate", "--plain", ENDLESS), (1, "gallery", "none", ENDLESS),
     (1, "image", "pack", ENDLESS), (2, "assemble", ENDLESS), (2, "trace", ENDLESS), (2, "compare", "false", ENDLESS),
 )
-ENDLESS_INPUTS = (
+ENDLESS_INPUTS: tuple[tuple[Any, ...], ...] = (
     (2, "it has more", "yes", "trace", "-"), (2, "it has more", "yes", "assemble", "-"),
     (1, "it has more", "yes", "image", "pack", "-"), (1, "it has more", "yes", "image", "unpack", "-"),
     (1, "1000 characters", "cat /dev/zero", "operate", "--plain", DECK),
@@ -89,11 +90,11 @@ class Tool(NamedTuple):
     """A call of a tool: its name, its words after that, and its standard input."""
 
     name: str
-    words: tuple
+    words: tuple[str, ...]
     text: bytes = b""
 
     @property
-    def shown(self):
+    def shown(self) -> str:
         """The call as it is told."""
         return f"tools/{self.name} {' '.join(self.words)}"
 
@@ -102,10 +103,10 @@ class Run(NamedTuple):
     """How a run of a tool ended: its status, and its lines on standard error."""
 
     status: int
-    told: list
+    told: list[str]
 
 
-def tools(folder):
+def tools(folder: str) -> Iterator[Tool]:
     """The calls that are tried; what they write goes into a folder."""
     yield Tool("timeline", (SESSION,))
     yield Tool("timeline", ("--html", SESSION))
@@ -120,13 +121,13 @@ def tools(folder):
     yield Tool("image", ("text", "-"), b"100 5\n")
 
 
-def ended(tool, words, program, **how):
+def ended(tool: Tool, words: Sequence[Any], program: Any, **how: Any) -> Run:
     """Runs a tool by these words with a program up to its end, in a session of its own, with which it is killed if it
     doesn't end.
 
     Raises Missing then."""
     environment = {**os.environ, "PYTHONPATH": str(ROOT / "tools"), "CDC6600": str(program)}
-    pipes = {"stdout": subprocess.DEVNULL, "stderr": subprocess.PIPE}
+    pipes: dict[str, Any] = {"stdout": subprocess.DEVNULL, "stderr": subprocess.PIPE}
     with input_of(tool.text) as given:
         process = subprocess.Popen(words, stdin=given, **pipes, env=environment, start_new_session=True, **how)
     with process:
@@ -139,20 +140,22 @@ def ended(tool, words, program, **how):
     return Run(process.returncode, told.decode(errors="replace").splitlines())
 
 
-def faults_of_end(what, tool, came):
+def faults_of_end(what: str, tool: Tool, came: Run) -> list[str]:
     """What is wrong with the end of a run to which something was refused."""
     is_told = len(came.told) == 1 and f"tools/{tool.name}: " in came.told[0]
     return [] if came.status and is_told else [f"{tool.shown}, {what}: status {came.status}, told {came.told[-4:]}"]
 
 
-def places():
+def places() -> Iterator[int]:
     """The starts that are refused: each of the first ones, and then fewer and fewer."""
     return chain((1, 2, 3), (4 << it for it in count()))
 
 
-def faults_of_starts(tool, kind, folder, program, at_places=None):
+def faults_of_starts(
+    tool: Tool, kind: str, folder: Path, program: str, at_places: Iterable[int] | None = None
+) -> list[str]:
     """Refuses a tool each start of a kind in turn, or those at these places; the faults."""
-    faults, mark = [], folder / "refused"
+    faults, mark = list[str](), folder / "refused"
     for at in at_places or places():
         came = ended(tool, [*HARNESS, kind, str(at), mark, ROOT / f"tools/{tool.name}", *tool.words], program)
         if not mark.exists():
@@ -162,7 +165,7 @@ def faults_of_starts(tool, kind, folder, program, at_places=None):
     return faults
 
 
-def wrapped(folder, program):
+def wrapped(folder: Path, program: str) -> Path:
     """A script that runs the program with all memory, for a tool that has little."""
     wrapper = folder / "program"
     wrapper.write_text(WRAPPER.replace("$PROGRAM", program), encoding="utf-8")
@@ -170,7 +173,7 @@ def wrapped(folder, program):
     return wrapper
 
 
-def ended_within(tool, most, program):
+def ended_within(tool: Tool, most: int, program: Any) -> Run:
     """Runs a tool with so many bytes of memory, and anew if Python crashes; how it ended."""
     limited = {"preexec_fn": lambda: resource.setrlimit(resource.RLIMIT_AS, (most, -1))}
     for _ in range(TRIES):
@@ -180,19 +183,19 @@ def ended_within(tool, most, program):
     return came
 
 
-def faults_of_memory(tool, folder, program):
+def faults_of_memory(tool: Tool, folder: Path, program: str) -> list[str]:
     """Runs a tool with little memory, and with more and more up to its usual end; the faults."""
-    faults, wrapper = [], wrapped(folder, program)
-    for most in accumulate(count(), lambda most, _: most + most // 50, initial=LEAST_MEMORY):
+    faults, wrapper, most = list[str](), wrapped(folder, program), LEAST_MEMORY
+    while most <= MOST_MEMORY:
         came = ended_within(tool, most, wrapper)
         if not came.status:
             return faults
         faults += faults_of_end(f"with {most} bytes of memory", tool, came)
-        if most > MOST_MEMORY:
-            return [*faults, f"{tool.shown}: {most} bytes of memory aren't enough"]
+        most += most // 50
+    return [*faults, f"{tool.shown}: {MOST_MEMORY} bytes of memory aren't enough"]
 
 
-def session_of(events):
+def session_of(events: int) -> str:
     """A session with so many events of Long Add."""
     many = events // len(OF_LONG_ADD)
     words = "".join(f"word {SUMS}\n" for _ in range(0, many, 4))
@@ -200,7 +203,7 @@ def session_of(events):
     return f"{DECK_BEGIN}{words}start 40\nend\n{SESSION_BEGIN}{made}"
 
 
-def seconds_of(program, events):
+def seconds_of(program: Any, events: int) -> float:
     """The seconds of the processor that it takes to draw so many events as text."""
     session = Session("a long session", session_of(events))
     begun = time.process_time()
@@ -211,7 +214,7 @@ def seconds_of(program, events):
     return time.process_time() - begun
 
 
-def faults_of_long_sessions(folder, program):
+def faults_of_long_sessions(folder: Path, program: Program) -> list[str]:
     """Draws long sessions; the faults."""
     short, long = (min(seconds_of(program, events) for _ in range(2)) for events in LONG)
     faults = [f"{LONG} events are drawn in {short:.2f} and {long:.2f} seconds"] if long > MOST_TIMES * short else []
@@ -226,14 +229,14 @@ def faults_of_long_sessions(folder, program):
     return faults
 
 
-def limited_calls():
+def limited_calls() -> dict[str, Any]:
     """How a tool is called with little memory, and the program with all."""
     return {"preexec_fn": lambda: resource.setrlimit(resource.RLIMIT_AS, (ENOUGH_MEMORY, -1))}
 
 
-def faults_of_endless(folder, program):
+def faults_of_endless(folder: Path, program: str) -> list[str]:
     """Gives the tools files and inputs without an end; the faults."""
-    wrapper, faults = wrapped(folder, program), []
+    wrapper, faults = wrapped(folder, program), list[str]()
     for status, name, *words in ENDLESS_CALLS:
         tool = Tool(name, tuple(f"{folder}/none" if it == "none" else it for it in words))
         came = ended(tool, [ROOT / f"tools/{name}", *tool.words], wrapper, **limited_calls())
@@ -250,17 +253,17 @@ def faults_of_endless(folder, program):
     return faults + differing_end(tool, (1, f"at most {MOST_LINES} lines"), came)
 
 
-def differing_end(tool, wanted, came):
+def differing_end(tool: Tool, wanted: tuple[int, str], came: Run) -> list[str]:
     """A fault unless a run has ended with a status, and with one line that has a text."""
     is_told = len(came.told) == 1 and f"tools/{tool.name}: " in came.told[0] and wanted[1] in came.told[0]
     return [] if came.status == wanted[0] and is_told else [f"{tool.shown}: wanted {wanted}, and not {came}"]
 
 
-def calls_with_escapes(folder):
+def calls_with_escapes(folder: Path) -> Iterator[tuple[Any, ...]]:
     """The names and words of calls that tell a name or a text with an escape character. Their files are in a folder."""
     missing, saved = f"{folder}/{ESCAPE}", f"{folder}/saved{ESCAPE}"
     stored = session("conflicts")
-    answers = re.sub("^(E7 .*)$", rf"\1{ESCAPE}", stored.answers.decode(), flags=re.MULTILINE)
+    answers = re.sub("^(E7 .*)$", rf"\1{ESCAPE}", (stored.answers or b"").decode(), flags=re.MULTILINE)
     texts = {
         "a.source": f"START  PS   {ESCAPE}\n", "a.answers": answers, "a.times": f"{ESCAPE} 1\n",
         "a.session": f"{EMPTY_DECK}{SESSION_BEGIN}{ESCAPE}\n", f"a{ESCAPE}.session": stored.text.decode(),
@@ -279,7 +282,7 @@ def calls_with_escapes(folder):
     yield from (("operate", "--plain", *words) for words in ((source,), (no_event,), ("--save", saved, DECK)))
 
 
-def faults_of_escapes(folder):
+def faults_of_escapes(folder: Path) -> list[str]:
     """Gives the tools names and texts with an escape character, which no terminal may get; the faults."""
     faults = []
     for name, *words in calls_with_escapes(folder):
@@ -291,15 +294,16 @@ def faults_of_escapes(folder):
     return faults
 
 
-def main():
+def main() -> int:
     program = Program().path
     with tempfile.TemporaryDirectory() as room:
-        works = [lambda it=it, kind=kind: faults_of_starts(it, kind, Path(room), program)
-                 for it in tools(room) for kind in (PROCESS, THREAD)]
+        folder, kinds = Path(room), (PROCESS, THREAD)
+        works: list[Callable[[], list[str]]] = [
+            partial(faults_of_starts, it, kind, folder, program) for it in tools(room) for kind in kinds
+        ]
         many = Tool("conformance", ("--random", "0", "--every", "100000", EMULATOR))
-        works += [lambda kind=kind: faults_of_starts(many, kind, Path(room), program, FEW_PLACES)
-                  for kind in (PROCESS, THREAD)]
-        works += [lambda it=it: faults_of_memory(it, Path(room), program) for it in tools(room)]
-        works += [lambda: faults_of_endless(Path(room), program)]
-        works += [lambda: faults_of_long_sessions(Path(room), Program()), lambda: faults_of_escapes(Path(room))]
+        works += [partial(faults_of_starts, many, kind, folder, program, FEW_PLACES) for kind in kinds]
+        works += [partial(faults_of_memory, it, folder, program) for it in tools(room)]
+        works += [partial(faults_of_endless, folder, program), partial(faults_of_escapes, folder)]
+        works += [partial(faults_of_long_sessions, folder, Program())]
         return tell([fault for work in works for fault in faults_found(work)])

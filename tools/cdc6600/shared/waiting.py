@@ -10,6 +10,7 @@ import select
 import subprocess
 import time
 from contextlib import contextmanager, suppress
+from pathlib import Path
 from typing import Any, AnyStr, BinaryIO, Callable, Iterator, Sequence, TypeVar
 
 MINUTES = 10
@@ -89,7 +90,7 @@ def finish(process: subprocess.Popen[AnyStr], what: str, minutes: float = MINUTE
     raise Missing(f"waited {minutes} minutes for the end of {what}")
 
 
-def run(words: Sequence[str], minutes: float = MINUTES, capture_output: bool = False,
+def run(words: Sequence[str | Path], minutes: float = MINUTES, capture_output: bool = False,
         **how: Any) -> subprocess.CompletedProcess[Any]:
     """Runs a command to its end, with further arguments for `Popen`; how it ended, as `subprocess.run` has it.
 
