@@ -5,8 +5,8 @@
 //! Callers rely on `put_contents`, which writes the text that `Contents.antt` defines for a part of a machine, and on
 //! `put_judgement`, which writes the text that `Holding.antt` defines for an event. `conflicts` has the lines of
 //! registers, `events` the schedule line of an event. The calls of `embedding` hand these texts to callers in C. Its
-//! tests are in `crates/text_tests/src/contents_tests.rt`; `tools/check embedding` compares lines with the drawings of
-//! sessions. Begin with `put_contents`.
+//! tests are in `crates/text_tests/src/contents_tests.rt`; `tools/check embedding` compares the lines with those of a
+//! second implementation of the rules, in Python. Begin with `put_contents`.
 #![tactic(auto)]
 
 mod conflicts;

@@ -29,7 +29,7 @@ enum Call {
 }
 
 /// The result of a call.
-#[derive(Clone, Copy, Debug, Drop, PartialEq, Eq)]
+#[derive(Clone, Copy, Drop, PartialEq, Eq)]
 enum Answer {
     /// The event may be made, or the update is done.
     Fine,

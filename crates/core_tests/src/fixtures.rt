@@ -1,12 +1,11 @@
-//! Words, registers, reasons for a halt and values of units, in forms that constants can hold.
+//! Words, registers and instructions, in forms that constants can hold.
 
 use instruction_table::read_text;
-use instructions::{Digit, Halt, Instr, Op, Reg};
-use unit_ops::UnitValue;
+use instructions::{Digit, Instr, Reg};
 use word60::{Word18, Word60};
 
 /// A register by its number, 0 to 7.
-#[derive(Clone, Copy, Debug, Drop, PartialEq, Eq)]
+#[derive(Clone, Copy, Drop, PartialEq, Eq)]
 pub(crate) enum Register {
     A(u8),
     B(u8),
@@ -59,58 +58,5 @@ pub(crate) fn number_of(index: Option<Word18>) -> Option<u32> {
     match index {
         Some(index) => Some(index.get()),
         None => None,
-    }
-}
-
-/// The reason why a machine is halted, or that it runs.
-#[derive(Clone, Copy, Drop)]
-pub(crate) enum Stand {
-    Running,
-    Stopped,
-    Straddling,
-    OutOfRange,
-    /// Halted at a refused opcode with the digits f and m.
-    Refused(u8, u8),
-}
-
-impl Stand {
-    pub(crate) fn halt(self) -> Option<Halt> {
-        match self {
-            Stand::Running => None,
-            Stand::Stopped => Some(Halt::Stop),
-            Stand::Straddling => Some(Halt::Straddle),
-            Stand::OutOfRange => Some(Halt::FetchRange),
-            Stand::Refused(f, m) => Some(Halt::Illegal(Op::Plain(digit(f), digit(m)))),
-        }
-    }
-}
-
-/// The value of a unit, as numbers of words and indexes.
-#[derive(Clone, Copy, Drop)]
-pub(crate) enum Computed {
-    Word(u64),
-    Index(u32),
-    Load(u32),
-    Store(u32, u64),
-    Goes(u32),
-    Stays,
-    /// The address of the link word, and the address that a jump to it returns to.
-    Link(u32, u32),
-}
-
-impl Computed {
-    pub(crate) fn unit_value(self) -> UnitValue {
-        match self {
-            Computed::Word(number) => UnitValue::Word(word(number)),
-            Computed::Index(number) => UnitValue::Index(index(number)),
-            Computed::Load(address) => UnitValue::Load(index(address)),
-            Computed::Store(address, number) => UnitValue::Store(index(address), word(number)),
-            Computed::Goes(to) => UnitValue::Jump(Some(index(to))),
-            Computed::Stays => UnitValue::Jump(None),
-            Computed::Link(at, back) => UnitValue::Link {
-                at: index(at),
-                back: index(back),
-            },
-        }
     }
 }

@@ -1,8 +1,9 @@
 //! Tests of the crates below `in_flight`, through their public items. This crate exports nothing.
 //!
-//! There is a file for each crate or subject. Tables give instructions as text. `fixtures` has registers and words in
-//! forms that constants can hold. The first table is `RESERVES_A_FREE_UNIT`: calls to a new scoreboard, one a row, with
-//! the result of each. Begin with that table, in `board_tests`.
+//! They cover cases that no deck, session or page in `decks/` can show: calls that the program doesn't make, values
+//! that no text contains, and refusals that change nothing. There is a file for each crate or subject. `fixtures` has
+//! words, registers and instructions in forms that constants can hold. The first table is `RESERVES_A_FREE_UNIT`: calls
+//! to a new scoreboard, one a row, with the result of each. Begin with that table, in `board_tests`.
 #![tactic(auto)]
 
 #[cfg(test)]

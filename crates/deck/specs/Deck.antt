@@ -16,10 +16,6 @@ use Rattle.deck.specs.declared.parsing.Line.{Line}
 use Rattle.deck.specs.declared.parsing.Line.TheVariants as says
 use Rattle.instructions.specs.declared.refusal.DeckFault.{DeckFault}
 use Rattle.instructions.specs.declared.refusal.DeckFault.TheVariants as faults
-use Rattle.instructions.specs.declared.limits.TheConstants.{MOST_ISSUES}
-use Rattle.relocation.specs.declared.storage.TheConstants.{LARGEST, SMALLEST}
-use Rattle.deck.specs.declared.reading.TheConstants.{MOST_LINES}
-use Rattle.device_text.specs.declared.line.TheConstants.{LONGEST_LINE}
 
 -- the line with these fields, if it isn't a `code` line
 abbrev pub parsed_fields : List (List ℕ) → Line (List ℕ)
@@ -79,7 +75,7 @@ with_number (Some n) next = next n
 
 -- whether no memory can have this size (fault `size`)
 abbrev pub is_no_size : ℕ → Bool
-is_no_size n = nat_lt n SMALLEST || nat_lt LARGEST n
+is_no_size n = nat_lt n 32 || nat_lt 131072 n
 
 -- a deck with a memory of this many words and nothing else
 abbrev pub begun : ℕ → Draft
@@ -148,7 +144,7 @@ applied d (says.Show a b) =
     (goes_on (record d { shows = d.shows ++ record { first = low; last = high } ∷ [] })))))
 applied d (says.Ask a k) =
     with_number (number_of 8 6 a) (λ n. with_number (number_of 10 8 k) (λ count.
-    refuse_if (nat_lt MOST_ISSUES count) faults.Number
+    refuse_if (nat_lt 10000000 count) faults.Number
     (with_request d n (record d { asks = d.asks ++ record { at = n; after = count } ∷ [] }))))
 applied d (says.AskFree a) =
     with_number (number_of 8 6 a) (λ n. with_request d n (record d { free = d.free ++ n ∷ [] }))
@@ -167,7 +163,7 @@ applied_to (Some d) text = applied d (parsed_line text)
 
 -- the effect of a line that may be too long (`long`)
 abbrev pub applied_line : Option Draft → List ℕ → LineOutcome
-applied_line before text = refuse_if (nat_lt LONGEST_LINE (length text)) faults.Long (applied_to before text)
+applied_line before text = refuse_if (nat_lt 200 (length text)) faults.Long (applied_to before text)
 
 -- the reading of a deck. `Good` has the deck, the number of its `end` line and the bytes after that line. `Bad` has the
 -- number of a line, its fault and the bytes left unread
@@ -184,8 +180,8 @@ read_on n (Err fault) rest next = Bad n fault rest
 -- the reading of these bytes from line n on. Each line comes with the bytes after it. Past line 10,000,000 the fault is
 -- `lines`, and nothing more is read. If no line is left before that the fault is `no end`, and no byte is left
 abbrev pub read_from : ℕ → Option Draft → List ℕ → List (List ℕ × List ℕ) → Reading
-read_from n before bytes [] = Bad n (if nat_lt MOST_LINES n then faults.Lines else faults.NoEnd) bytes
-read_from n before bytes (line ∷ lines) = if nat_lt MOST_LINES n then Bad n faults.Lines bytes
+read_from n before bytes [] = Bad n (if nat_lt 10000000 n then faults.Lines else faults.NoEnd) bytes
+read_from n before bytes (line ∷ lines) = if nat_lt 10000000 n then Bad n faults.Lines bytes
     else read_on n (applied_line before line.0) (left_after bytes line)
     (λ next. read_from (n + 1) (Some next) line.1 lines)
 

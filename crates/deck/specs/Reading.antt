@@ -1,6 +1,6 @@
 -- The results of reading a deck.
 -- Source: ours.
-use Rattle.std.specs.Prelude.{◌≡◌, ℕ, suc, ◌<◌, ◌≤◌, List, [], ◌∷◌, length, drop, Bool, true, false, Result, Ok, Err, ⊤, ◌⊎◌}
+use Rattle.std.specs.Prelude.{◌≡◌, ℕ, ◌<◌, ◌≤◌, List, [], ◌∷◌, length, drop, Bool, true, false, Result, Ok, Err, ⊤, ◌⊎◌}
 use Rattle.relocation.specs.Relocation.{is_memory_size}
 use Rattle.deck.specs.Deck.{LineOutcome, Reading, Good, Bad, Ends, begun, goes_on, whole}
 use Rattle.deck.specs.declared.deck.Deck.{Deck}
@@ -11,7 +11,6 @@ use Rattle.instructions.specs.declared.refusal.DeckFault.{DeckFault}
 use Rattle.instructions.specs.declared.refusal.DeckFault.TheVariants as faults
 use Rattle.instructions.specs.declared.refusal.Refusal.{Refusal}
 use Rattle.instructions.specs.declared.refusal.Refusal.TheVariants as refusals
-use Rattle.device_text.specs.declared.line.TheConstants.{LONGEST_LINE}
 
 -- the refusal if no deck is returned. Either it has the number and the fault of the reading's faulty line, and the
 -- reading leaves the same bytes. Or memory ran out or a read failed, and then nothing is claimed of the reading. No
@@ -36,7 +35,7 @@ GivesDeck (Err refusal) reading rest = GivesNoDeck refusal reading rest
 -- (`no end`), or the line is too long (`long`)
 abbrev pub HasNoLine : DeckFault → List ℕ → List ℕ → List (List ℕ × List ℕ) → Type 0
 HasNoLine fault xs ys [] = (fault ≡ faults.NoEnd) × (ys ≡ xs)
-HasNoLine fault xs ys (line ∷ more) = (fault ≡ faults.Long) × (LONGEST_LINE < length line.0) × (ys ≡ drop (suc LONGEST_LINE) xs)
+HasNoLine fault xs ys (line ∷ more) = (fault ≡ faults.Long) × (200 < length line.0) × (ys ≡ drop 201 xs)
 
 -- the next line, line n, is refused like this. Nothing is claimed of a failed read
 abbrev pub Refuses : ℕ → Refusal → List ℕ → List ℕ → List (List ℕ × List ℕ) → Type 0

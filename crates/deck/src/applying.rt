@@ -9,7 +9,6 @@ ghost use Rattle.deck.specs.declared.deck.Draft.{Draft as SomeDraft};
 ghost use Rattle.deck.specs.declared.parsing.Line.TheVariants as says;
 ghost use Rattle.deck.specs.Reading.{Answers, Begins};
 ghost use Rattle.deck.specs.inner.ParsedLine.{line_with_bytes};
-ghost use Rattle.device_text.specs.declared.line.TheConstants.{LONGEST_LINE};
 
 use crate::Image;
 use crate::coding::{parcels_in, word_of};
@@ -113,7 +112,7 @@ impl Draft {
 
     /// Applies a `code` line.
     fn code_line(&mut self, texts: &[u8]) -> Result<Flow, DeckFault>
-        requires { length texts.now ≤ LONGEST_LINE }
+        requires { length texts.now ≤ 200 }
         ensures { Answers result self.old self.new (applied self.old (says.Code texts.now)) }
     {
         if self.next_address >= self.image.size() {
@@ -212,7 +211,7 @@ impl Draft {
     /// # Errors
     /// The fault of the line. The draft is then unchanged.
     pub fn apply(&mut self, text: &[u8]) -> Result<Flow, DeckFault>
-        requires { length text.now ≤ LONGEST_LINE }
+        requires { length text.now ≤ 200 }
         ensures { Answers result self.old self.new (applied_line (Some self.old) text.now) }
     {
         match parse_line(text) {

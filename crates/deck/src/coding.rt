@@ -1,7 +1,6 @@
 ghost use Rattle.std.specs.Prelude.{◌≡◌, ◌<◌, ◌≤◌, ◌+◌, ◌^◌, length, All, IfSome, MatchOption, Some, None, true};
 ghost use Rattle.deck.specs.Code.{items_of, instr_in, put_before, item_parcels, parcels_in, word_of, parcel_or_pass};
 ghost use Rattle.deck.specs.Code.{OptionalItems};
-ghost use Rattle.device_text.specs.declared.line.TheConstants.{LONGEST_LINE};
 
 use arrayvec::ArrayVec;
 use device_text::first_part;
@@ -30,7 +29,7 @@ fn instr_in(item: &[u8]) -> Option<Instr>
 
 /// Adds the parcels of an item's instruction. Returns whether the item is an instruction.
 fn put_item(parcels: &mut Parcels, item: &[u8]) -> bool
-    requires room { length parcels.old.items ≤ LONGEST_LINE }
+    requires room { length parcels.old.items ≤ 200 }
     requires bits { All (λ p. p < 2 ^ 15) parcels.old.items }
     ensures added { OptionalItems result parcels.new.items (put_before parcels.old.items (item_parcels item.now)) }
     ensures bits { All (λ p. p < 2 ^ 15) parcels.new.items }
@@ -49,7 +48,7 @@ fn put_item(parcels: &mut Parcels, item: &[u8]) -> bool
 /// The parcels of instructions from their texts, with a space before each text and semicolons between them. Returns
 /// `None` if any text isn't that of an instruction.
 pub fn parcels_in(texts: &[u8]) -> Option<Parcels>
-    requires { length texts.now ≤ LONGEST_LINE }
+    requires { length texts.now ≤ 200 }
     ensures parcels { MatchOption result (parcels_in (items_of texts.now) ≡ None)
         (λ found. parcels_in (items_of texts.now) ≡ Some found.items) }
     ensures bits { IfSome result (λ found. All (λ p. p < 2 ^ 15) found.items) }

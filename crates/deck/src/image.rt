@@ -20,14 +20,13 @@ pub struct Image {
 
 impl Model for Image {
     ghost use Rattle.std.specs.Prelude.{◌≡◌, ◌≤◌, length};
-    ghost use Rattle.relocation.specs.declared.storage.TheConstants.{LARGEST};
     ghost use Rattle.deck.specs.Image.{Placed};
 
     ghost Value = { Placed };
 
     ghost view = { λ i. record { memory = i.memory; placed = i.placed.items } };
 
-    ghost invariant = { λ i. (length i.placed.items ≡ length i.memory) × (length i.memory ≤ LARGEST) };
+    ghost invariant = { λ i. (length i.placed.items ≡ length i.memory) × (length i.memory ≤ 131072) };
 }
 
 impl Image {

@@ -6,7 +6,6 @@ ghost use Rattle.deck.specs.Deck.{deck, read_from};
 ghost use Rattle.device_text.specs.Line.{ReadsPart, lines_of};
 ghost use Rattle.deck.specs.Reading.{EndsWithin, Gives, GivesDeck, GivesNoDeck, Refuses};
 ghost use Rattle.deck.specs.Reading.{is_cut, is_of_reading, is_read_failure};
-ghost use Rattle.device_text.specs.declared.line.TheConstants.{LONGEST_LINE};
 
 use crate::applying::first_size;
 use crate::deck::{Deck, Draft, Flow};
@@ -30,7 +29,7 @@ pub fn with_line_number<T>(line: u32, found: Result<T, DeckFault>) -> Result<T, 
 
 /// Reads line `number`. A line has at most 200 bytes.
 fn next_line<I: Input>(input: &mut I, line: &mut LineBuffer, number: u32) -> Result<(), Refusal>
-    ensures text { OnOk result (length line.new.items ≤ LONGEST_LINE) }
+    ensures text { OnOk result (length line.new.items ≤ 200) }
     ensures ok { OnOk result (Moves (I.remaining input.old) (I.remaining input.new)
         (λ xs ys. lines_of xs ≡ (line.new.items, ys) ∷ lines_of ys)) }
     ensures err { IfErr result (λ e. Moves (I.remaining input.old) (I.remaining input.new)
@@ -84,7 +83,7 @@ pub fn read_deck_from<I: Input>(
 ) -> Result<(Deck, u32), Refusal>
     ensures deck { Moves (I.remaining input.old) (I.remaining input.new) (λ xs ys. Gives result (deck xs) ys) }
     ensures refusals { is_of_reading result ≡ true }
-    ensures number { IfOk result (λ found. found.1 ≤ MOST_LINES) }
+    ensures number { IfOk result (λ found. found.1 ≤ 10000000) }
     ensures unread { is_cut result ≡ true
         → Moves (I.remaining input.old) (I.remaining input.new) (λ xs ys. EndsWithin (length ys) (deck xs)) }
     ensures failure { I.has_failed input.new ≡ (I.has_failed input.old || is_read_failure result) }

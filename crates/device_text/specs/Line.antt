@@ -1,10 +1,9 @@
 -- Bytes split into lines.
 -- Source: ours.
 use Rattle.std.specs.Prelude.{◌≡◌, ◌≢◌, ℕ, ◌≤◌, ◌<◌, List, [], ◌∷◌, ◌++◌, length, drop, All, ◌⊎◌, ◌==◌}
-use Rattle.std.specs.Prelude.{suc, nat_lt, if◌then◌else◌}
+use Rattle.std.specs.Prelude.{nat_lt, if◌then◌else◌}
 use Rattle.device_text.specs.declared.line.LineRead.{LineRead}
 use Rattle.device_text.specs.declared.line.LineRead.TheVariants.{Whole, Long, Nothing}
-use Rattle.device_text.specs.declared.line.TheConstants.{LONGEST_LINE}
 
 -- the lines, with a byte added at the beginning of the first line
 abbrev pub onto : ℕ → List (List ℕ × List ℕ) → List (List ℕ × List ℕ)
@@ -24,7 +23,7 @@ IsTaken lines rest = (line : List ℕ) × (lines ≡ (line, rest) ∷ lines_of r
 -- the bytes left after reading their first line, which comes with the bytes after it. A line of more than 200 bytes is
 -- read up to its byte 201
 abbrev pub left_after : List ℕ → List ℕ × List ℕ → List ℕ
-left_after bytes line = if nat_lt LONGEST_LINE (length line.0) then drop (suc LONGEST_LINE) bytes else line.1
+left_after bytes line = if nat_lt 200 (length line.0) then drop 201 bytes else line.1
 
 -- none of the bytes is a line end
 abbrev pub IsText : List ℕ → Type 0
@@ -36,8 +35,8 @@ ReadsPart xs ys = (part : List ℕ) × IsText part × (xs ≡ part ++ ys)
 
 -- the text that `read_line` leaves in its buffer
 abbrev pub LineText : LineRead → List ℕ → Type 0
-LineText Whole text = IsText text × (length text ≤ LONGEST_LINE)
-LineText Long text = IsText text × (length text ≡ suc LONGEST_LINE)
+LineText Whole text = IsText text × (length text ≤ 200)
+LineText Long text = IsText text × (length text ≡ 201)
 LineText Nothing text = text ≡ []
 
 -- `read_line` took this text from xs and left ys

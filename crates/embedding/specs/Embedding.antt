@@ -17,7 +17,6 @@ use Rattle.operator_terms.specs.declared.fault.ProgramFault.TheVariants as fault
 use Rattle.operator_terms.specs.declared.status.Status.{Status}
 use Rattle.operator_terms.specs.declared.status.Status.TheVariants.{Stopped, Usage}
 use Rattle.embedding.specs.declared.outcome.Outcome.{Outcome}
-use Rattle.instructions.specs.declared.limits.TheConstants.{MOST_ISSUES}
 
 -- the fault of a command that ends at this refusal. Commands write to memory here, so a failed write means that memory
 -- ran out
@@ -92,7 +91,7 @@ Ran input budget outcome old new =
 -- the outcome of a call with a number that no budget may have
 abbrev pub RefusesBudget : ℕ → Outcome → List ℕ → List ℕ → Type 0
 RefusesBudget budget outcome old new =
-    ¬ ((1 ≤ budget) × (budget ≤ MOST_ISSUES)) × HandsOver outcome (Ok Usage) [] old new
+    ¬ ((1 ≤ budget) × (budget ≤ 10000000)) × HandsOver outcome (Ok Usage) [] old new
 
 -- the same for any number as the budget
 abbrev pub HasRun : List ℕ → ℕ → Outcome → List ℕ → List ℕ → Type 0

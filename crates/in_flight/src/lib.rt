@@ -9,11 +9,16 @@
 #![tactic(auto)]
 
 mod flight;
+mod instances;
 mod pending;
 mod referring;
 mod slots;
 
 pub use flight::InFlight;
+pub use instances::{
+    a_fetch_waits_for_a_store_to_come, a_load_to_return_is_pending,
+    a_result_waits_for_its_earlier_reader,
+};
 pub use pending::{Arrival, Outstanding, Pending, Phase, Stage};
 pub use referring::Relocated;
 pub use slots::{Located, SLOTS};

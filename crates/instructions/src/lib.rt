@@ -25,7 +25,10 @@ pub use instr::{
     Addends, Addition, BTest, Base, Direction, Instr, Logic, Op, Pair, Reg, Target, Unit, UnitKind,
     XTest,
 };
-pub use limits::{FIRST_CHANNEL, MOST_ACCESSES, MOST_ISSUES, MOST_REQUESTS, PAST_CHANNELS};
+pub use limits::{
+    FIRST_CHANNEL, MOST_ACCESSES, MOST_ISSUES, MOST_REQUESTS, PAST_CHANNELS,
+    limits_have_their_values,
+};
 pub use per_unit::PerUnit;
 pub use refusal::{DeckFault, Halt, Refusal};
 pub use registers::{OperandRegisters, operand_registers, results, sources, unit_kind};

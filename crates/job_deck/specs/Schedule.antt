@@ -12,8 +12,6 @@ use Rattle.device_text.specs.Text.{fields_of, number_of}
 use Rattle.device_text.specs.Names.{unit_named}
 use Rattle.job_deck.specs.declared.schedule.ScheduleLine.{ScheduleLine}
 use Rattle.job_deck.specs.declared.schedule.ScheduleLine.TheVariants.{Makes, Ends, Drains, Faulty}
-use Rattle.deck.specs.declared.reading.TheConstants.{MOST_LINES}
-use Rattle.device_text.specs.declared.line.TheConstants.{LONGEST_LINE}
 
 -- the event with the unit, or the fault `unknown` if there is no such unit
 abbrev pub with_unit : Option FunctionalUnit → (FunctionalUnit → Event) → ScheduleLine
@@ -81,13 +79,13 @@ schedule_line text = line_of_fields (fields_of text)
 -- left the fault is `no end`, and a line of more than 200 bytes has the fault `long`. Each line comes with the bytes
 -- after it
 abbrev pub line_says : ℕ → List (List ℕ × List ℕ) → ScheduleLine
-line_says n [] = Faulty (if nat_lt MOST_LINES n then faults.Lines else faults.NoEnd)
+line_says n [] = Faulty (if nat_lt 10000000 n then faults.Lines else faults.NoEnd)
 line_says n (line ∷ more) =
-    if nat_lt MOST_LINES n then Faulty faults.Lines
-    else if nat_lt LONGEST_LINE (length line.0) then Faulty faults.Long
+    if nat_lt 10000000 n then Faulty faults.Lines
+    else if nat_lt 200 (length line.0) then Faulty faults.Long
     else schedule_line line.0
 
 -- the bytes left after reading line n, which is the first of these lines. Past line 10,000,000 nothing is read
 abbrev pub left_after_line : ℕ → List ℕ → List (List ℕ × List ℕ) → List ℕ
 left_after_line n bytes [] = bytes
-left_after_line n bytes (line ∷ more) = if nat_lt MOST_LINES n then bytes else left_after bytes line
+left_after_line n bytes (line ∷ more) = if nat_lt 10000000 n then bytes else left_after bytes line

@@ -2,7 +2,6 @@ ghost use Rattle.std.specs.Prelude.{◌≡◌, ◌<◌, ◌≤◌, ◌+◌, IfOk
 ghost use Rattle.device_text.specs.Device.{Moves, failed_after};
 ghost use Rattle.device_text.specs.Line.{ReadsPart};
 ghost use Rattle.job_deck.specs.inner.SessionParts.{ReadsScheduleLine};
-ghost use Rattle.deck.specs.declared.reading.TheConstants.{MOST_LINES};
 
 use crate::schedule::{ScheduleLine, parse_schedule_line};
 use device_text::{Input, LineBuffer, LineRead, Output, ReadFailed, read_line};
@@ -20,7 +19,7 @@ pub fn read_schedule_line<I: Input, O: Output>(
     before: u32,
     number: u32,
 ) -> Result<ScheduleLine, ReadFailed>
-    requires count { number ≤ MOST_LINES }
+    requires count { number ≤ 10000000 }
     requires handed_on { before + 1 < number → O.waits output.now ≡ false }
     ensures line { IfOk result (λ line. Moves (I.remaining input.old) (I.remaining input.new)
         (ReadsScheduleLine number line)) }

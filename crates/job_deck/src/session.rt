@@ -8,7 +8,6 @@ ghost use Rattle.deck.specs.Reading.{is_read_failure};
 ghost use Rattle.job_deck.specs.Listing.{is_write_failure};
 ghost use Rattle.job_deck.specs.inner.SessionParts.{AnswersLines, IsMade};
 ghost use Rattle.job_deck.specs.SessionResult.{Performs, RunsSession};
-ghost use Rattle.instructions.specs.declared.limits.TheConstants.{MOST_ISSUES};
 
 use crate::answering::put_answer;
 use crate::ending::finish;
@@ -43,7 +42,7 @@ fn answer_lines<I: Input, O: Output>(
     machine: &mut Machine,
     before: u32,
 ) -> Result<bool, Refusal>
-    requires { before ≤ MOST_LINES }
+    requires { before ≤ 10000000 }
     ensures told { Moves (I.remaining input.old) (I.remaining input.new)
         (λ xs ys. AnswersLines result machine.old machine.new (before + 1) xs ys (O.contents output.old)
         (O.contents output.new)) }
@@ -77,7 +76,7 @@ fn run_session<I: Input, O: Output>(
     deck: &Deck,
     before: u32,
 ) -> Result<(), Refusal>
-    requires { before ≤ MOST_LINES }
+    requires { before ≤ 10000000 }
     ensures told { Moves (I.remaining input.old) (I.remaining input.new)
         (λ xs ys. RunsSession result (GoesOn machine.old) machine.old (before + 1) deck.now.shows xs ys
         (O.contents output.old) (O.contents output.new)) }
@@ -97,7 +96,7 @@ fn run_session<I: Input, O: Output>(
 /// # Errors
 /// `OutOfMemory` if memory runs out.
 pub fn booted(alloc: Global, deck: &Deck, budget: u64) -> Result<Machine, Refusal>
-    requires { budget ≤ MOST_ISSUES }
+    requires { budget ≤ 10000000 }
     ensures machine { MatchResult result (λ machine. machine ≡ boot_processor deck.now.image.memory budget)
         (λ refusal. refusal ≡ OutOfMemory) }
     ensures reached { IfOk result (λ machine. IsReached deck.now.image.memory budget [] [] machine) }
@@ -120,7 +119,7 @@ pub fn events_to<I: Input, O: Output>(
     line: &mut LineBuffer,
     budget: u64,
 ) -> Result<(), Refusal>
-    requires { budget ≤ MOST_ISSUES }
+    requires { budget ≤ 10000000 }
     ensures performed { Moves (I.remaining input.old) (I.remaining input.new)
         (λ xs ys. Performs result budget (deck xs) ys (O.contents output.old) (O.contents output.new)) }
     ensures read { I.has_failed input.new ≡ (I.has_failed input.old || is_read_failure result) }
@@ -145,7 +144,7 @@ pub fn events<R: Read, W: Write>(
     writer: &mut W,
     budget: u64,
 ) -> Result<(), Refusal>
-    requires { budget ≤ MOST_ISSUES }
+    requires { budget ≤ 10000000 }
     ensures { Moves (R.remaining reader.old) (R.remaining reader.new)
         (λ xs ys. Performs result budget (deck xs) ys (W.contents writer.old) (W.contents writer.new)) }
 {

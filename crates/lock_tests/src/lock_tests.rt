@@ -473,20 +473,20 @@ fn strange_to<K: Naming, J: Naming, R: Wait>(
     (started, first, refusal, is_stored, stored, shown)
 }
 
-/// `end` tells the machine's users to end; before that they aren't told.
+/// `end` tells the machine's users to end; before that they aren't told. A pending instruction stays pending.
 #[test]
 fn ending(rt: HostRuntime) -> Result<(), Fail> {
-    let machine = booted(rt.alloc(), &[])?;
+    let machine = issuing(rt.alloc())?;
     let ended = play(&rt, rt.alloc(), machine, &ToldToEnd)?;
-    assert_eq!(rt; ended, [false, true]);
+    assert_eq!(rt; ended, [(false, false), (true, false)]);
     Ok(())
 }
 
-/// The outcome is whether the users were told to end, before the call and after it.
+/// The outcome is whether the users were told to end and whether the machine is drained, before the call and after it.
 struct ToldToEnd;
 
 impl Scenario for ToldToEnd {
-    type Outcome = [bool; 2];
+    type Outcome = [(bool, bool); 2];
 
     fn play<K: Naming, R: Wait>(
         &self,
@@ -494,11 +494,11 @@ impl Scenario for ToldToEnd {
         shared: &Shared<K>,
         seats: [Seat; 7],
         _seen: &mut Seen<K>,
-    ) -> [bool; 2] {
+    ) -> [(bool, bool); 2] {
         leave_all(seats);
-        let before = shared.ended(rt);
+        let before = (shared.ended(rt), shared.drained(rt));
         shared.end(rt);
-        [before, shared.ended(rt)]
+        [before, (shared.ended(rt), shared.drained(rt))]
     }
 }
 

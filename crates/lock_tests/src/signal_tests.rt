@@ -1,12 +1,12 @@
 //! How the threads that drive a machine wake each other.
 ghost use Rattle.std.specs.Prelude.{◌≡◌};
 
-use crate::fixtures::{FIRST, booted, leave, leave_all, note, of_increment1};
+use crate::fixtures::{FIRST, booted, leave, leave_all, note, of_increment1, of_increments, x};
 use crate::scenario::{Scenario, play};
 use instructions::{Refusal, Unit};
-use machine::{Machine, Seat};
+use machine::{Finished, Machine, Seat};
 use machine_lock::{Ground, Naming, Seen, Shared};
-use program_order::Note;
+use program_order::{Event, Note};
 use signals::{Signal, Signals, Wakeups};
 use std::alloc::Global;
 use std::marker::Brand;
@@ -121,6 +121,117 @@ impl Scenario for Stores {
     }
 }
 
+/// A machine that has issued SA1 B0+17, BX3 X1*X2 and SX2 B1+B2. The load is in place 0 of the hopper. The Boolean unit
+/// waits for X1, and Increment2 can't store X2 until the Boolean unit has read it.
+fn holding(alloc: Global) -> Result<Machine, Refusal> {
+    let mut machine = booted(alloc, &[(0o100, "51100000171131276212")])?;
+    let unit = Unit::Increment1;
+    let events = [
+        Event::Ask(0o40),
+        Event::Exchange,
+        Event::Issue,
+        Event::Issue,
+        Event::Issue,
+        Event::Read(unit),
+        Event::Finish(unit),
+        Event::Store(unit),
+    ];
+    for event in events {
+        let _ = machine.apply(event)?;
+    }
+    Ok(machine)
+}
+
+/// Takes a reservation from claim to finish. Returns the seat if a step is refused.
+fn finished<K: Naming, R: Wait>(
+    rt: &R,
+    shared: &Shared<K>,
+    seat: Seat,
+    note: Note,
+) -> Result<Finished, Seat> {
+    let reserved = match shared.claim(rt, seat, note) {
+        Ok(reserved) => reserved,
+        Err((_, seat)) => return Err(seat),
+    };
+    let loaded = match shared.read(rt, reserved) {
+        Ok(loaded) => loaded,
+        Err((_, reserved)) => return Err(reserved.abandon()),
+    };
+    match shared.finish(rt, loaded.compute()) {
+        Ok(result) => Ok(result),
+        Err((_, computed)) => Err(computed.abandon()),
+    }
+}
+
+/// Accepts the reference in place 0 of the hopper and then stores a result, in one hold of the lock. Returns whether the
+/// acceptance was made, and the refusal of the store.
+fn accept_and_store<K: Naming, R: Wait>(
+    rt: &R,
+    shared: &Shared<K>,
+    token: Finished,
+) -> (bool, Option<Refusal>) {
+    let mut machine = shared.lock(rt);
+    let accepted = machine.accept(0);
+    let (seat, refused) = match machine.store(token) {
+        Ok(seat) => (seat, None),
+        Err((refusal, token)) => (token.abandon(), Some(refusal)),
+    };
+    shared.release(machine);
+    seat.leave();
+    (accepted.is_ok(), refused)
+}
+
+/// An acceptance wakes a thread that waits for a change, even if a store is refused later in the same hold of the lock.
+/// A return wakes that thread too, but none that waits for a read.
+#[test]
+fn changes_of_memory_are_told(rt: HostRuntime) -> Result<(), Fail> {
+    let machine = holding(rt.alloc())?;
+    let told = play(&rt, rt.alloc(), machine, &MemoryEvents)?;
+    let held = Some(Refusal::ResultHeld(x(2)));
+    assert_eq!(rt; told, Some(((true, held), (1, 0, 0), Ok(()), (2, 0, 0))));
+    Ok(())
+}
+
+/// Whether the acceptance was made, the refusal of the store, and the counts after the hold. Then the answer of the
+/// return, and the counts after that.
+type MemoryTold = ((bool, Option<Refusal>), Counts, Result<(), Refusal>, Counts);
+
+/// An acceptance with a refused store, and a return, while the issuing thread waits for a change and the storage worker
+/// for a read. The outcome is `None` if Increment2 can't finish.
+struct MemoryEvents;
+
+impl Scenario for MemoryEvents {
+    type Outcome = Option<MemoryTold>;
+
+    fn play<K: Naming, R: Wait>(
+        &self,
+        rt: &R,
+        shared: &Shared<K>,
+        seats: [Seat; 7],
+        _seen: &mut Seen<K>,
+    ) -> Option<MemoryTold> {
+        let (increment1, increment2) = of_increments(seats);
+        increment1.leave();
+        match finished(rt, shared, increment2, note(Unit::Increment2, 3)) {
+            Ok(token) => Some(memory_told(rt, shared, token)),
+            Err(seat) => {
+                seat.leave();
+                None
+            }
+        }
+    }
+}
+
+/// The events of memory and the counts after them.
+fn memory_told<K: Naming, R: Wait>(rt: &R, shared: &Shared<K>, token: Finished) -> MemoryTold {
+    shared.signals().issuing.await_change(true);
+    shared.signals().memory.await_read(true);
+    let stored = accept_and_store(rt, shared, token);
+    let after = told(shared);
+    let returned = shared.return_load(rt, 1);
+    (stored, after, returned, told(shared))
+}
+
 /// A raise for one unit raises the signal of its worker alone; the end raises all signals.
 #[test]
 fn the_end_is_told_to_all(rt: HostRuntime) -> Result<(), Fail> {
@@ -151,6 +262,62 @@ impl Scenario for RaisedAndEnded {
         shared.end(rt);
         [before, (sent(shared), told(shared))]
     }
+}
+
+/// The end is recorded before it is told: while another thread holds the lock, `end` raises no signal.
+#[test]
+fn the_end_is_told_late(rt: HostRuntime) -> Result<(), Fail> {
+    let machine = booted(rt.alloc(), &[])?;
+    let ground = Ground::new(rt.alloc())?;
+    let counts = end_of_held::<Brand, _>(&rt, rt.alloc(), ground, machine)?;
+    assert_eq!(rt; counts, (0, 1));
+    Ok(())
+}
+
+/// Opens a machine that no thread serves, and ends it while another thread holds its lock.
+fn end_of_held<K: Naming + Send + Sync, R: Threads + Wait + Sync>(
+    rt: &R,
+    alloc: Global,
+    ground: Ground,
+    machine: Machine,
+) -> Result<(u64, u64), Refusal>
+    requires { ground ≡ K.table }
+{
+    let (shared, seats, _) = Shared::<K>::open(alloc, ground, machine)?;
+    leave_all(seats);
+    Ok(counts_of_the_end(rt, &shared))
+}
+
+/// The counts of the asking thread's signal while the lock is held, and after the end.
+fn counts_of_the_end<K: Naming + Send + Sync, R: Threads + Wait + Sync>(
+    rt: &R,
+    shared: &Shared<K>,
+) -> (u64, u64) {
+    let (held, ()) = join(
+        rt,
+        || count_while_held(rt, shared),
+        || end_when_held(rt, shared),
+    );
+    (held, shared.signals().requests.count())
+}
+
+/// Holds the lock for some milliseconds. Returns the count of the asking thread's signal at the end of the hold.
+fn count_while_held<K: Naming, R: Wait>(rt: &R, shared: &Shared<K>) -> u64 {
+    let machine = shared.lock(rt);
+    let signals = shared.signals();
+    signals.memory.raise();
+    for _ in 0..20u32 {
+        signals.requests.sleep(rt, 0);
+    }
+    let count = signals.requests.count();
+    shared.release(machine);
+    count
+}
+
+/// Tells the machine's users to end, once another thread holds the lock.
+fn end_when_held<K: Naming, R: Wait>(rt: &R, shared: &Shared<K>) {
+    let _ = next_count(rt, shared.signals(), 0);
+    shared.end(rt);
 }
 
 /// A signal is raised by a change that its thread waits for, and by nothing else.

@@ -12,13 +12,12 @@ use Rattle.sequential.specs.Log.{steps_of, issued}
 use Rattle.sequential.specs.Replay.{LogStep}
 use Rattle.device_text.specs.Text.{fields_of, number_of}
 use Rattle.log_text.specs.declared.logs.Allowance.{Allowance}
-use Rattle.instructions.specs.declared.limits.TheConstants.{MOST_ISSUES, MOST_REQUESTS, MOST_ACCESSES}
 
 -- the allowance at the beginning of a log: 10,000,000 instructions, 1,000,000 exchanges and 1,000,000 peripheral
 -- accesses
 abbrev pub whole_allowance : Allowance
 whole_allowance =
-    record { after_count = false; instructions = MOST_ISSUES; exchanges = MOST_REQUESTS; accesses = MOST_ACCESSES }
+    record { after_count = false; instructions = 10000000; exchanges = 1000000; accesses = 1000000 }
 
 -- whether a 0 comes before another digit
 abbrev pub has_leading_zero : List ℕ → Bool
@@ -118,4 +117,4 @@ abbrev pub AddsField : Option Allowance → Allowance → List ℕ → List LogS
 AddsField None left field before now = entry_in left field ≡ None
 AddsField (Some more) left field before now =
     (entry : Entry) × (entry_in left field ≡ Some entry) × (now ≡ before ++ steps_of (entry ∷ []))
-    × (more ≡ spent left entry) × (issued now + more.instructions ≤ MOST_ISSUES)
+    × (more ≡ spent left entry) × (issued now + more.instructions ≤ 10000000)

@@ -216,7 +216,7 @@ fn add_entry(log: &mut Log, entry: &Entry) -> Result<(), Refusal>
 /// # Errors
 /// `OutOfMemory` if memory runs out.
 pub fn add_field(log: &mut Log, left: Allowance, field: &[u8]) -> Result<Option<Allowance>, Refusal>
-    requires { issued log.old.steps + left.instructions ≤ MOST_ISSUES }
+    requires { issued log.old.steps + left.instructions ≤ 10000000 }
     ensures { MatchResult result (λ more. AddsField more left field.now log.old.steps log.new.steps)
         (λ refusal. refusal ≡ OutOfMemory) }
 {

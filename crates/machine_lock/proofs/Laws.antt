@@ -4,7 +4,7 @@ use Rattle.std.proofs.Common.{◌∙◌, subst, get_or, inl, inr}
 use Rattle.std.proofs.lemmas.List.{append-nil}
 use Rattle.std.specs.Prelude.{Result, Ok, Err, MatchResult}
 use Rattle.instructions.specs.declared.refusal.Refusal.{Refusal}
-use Rattle.instructions.specs.declared.refusal.Refusal.TheVariants.{Budget}
+use Rattle.instructions.specs.declared.refusal.Refusal.TheVariants.{Budget, Nothing}
 use Rattle.sequential.specs.Log.{issued}
 use Rattle.program_order.specs.Invariant.{IsReplay, IsWithinBudget}
 use Rattle.sequential.specs.Replay.{LogStep, Issued, Exchanged, ReadAt, Wrote, boot, replay}
@@ -18,7 +18,7 @@ use Rattle.program_order.specs.declared.event.Note.{Note}
 use Rattle.program_order.specs.Events.{after, allowed}
 use Rattle.program_order.specs.Headline.{exchange_step, made_steps}
 use Rattle.program_order.specs.Processor.{Processor, completed, replayed}
-use Rattle.program_order.specs.Run.{IsAnswer, answer_by, answer_of, done_by, settled}
+use Rattle.program_order.specs.Run.{IsAnswer, answer_by, answer_of, done_by, makes_room, settled}
 use Rattle.program_order.specs.Telling.{IsNoted, IsWhy}
 use Rattle.machine_lock.proofs.Budgets.{exchange_budget, issue_budget}
 use Rattle.program_order.proofs.keeping.Numbering.{ok_done}
@@ -531,3 +531,33 @@ pub token_kept : {A B : Type 0} (w v : Processor) (e : Event) (p : Me ℕ Knowin
     → p ≡ (keeper (past v), [])
 token_kept w v e p (Ok x) q ep h = kept_same w v p p ep (quiet w v e q h) refl
 token_kept w v e p (Err y) q ep h = kept_same w v p p ep (ap past h) refl
+
+-- ---- an event with a number out of range ----
+
+-- whether memory makes the event
+abbrev pub is_of_memory : Event → Bool
+is_of_memory (Accept p) = true
+is_of_memory (Return c) = true
+is_of_memory (BankFree b) = true
+is_of_memory _ = false
+
+makes_no_room : (e : Event) → is_of_memory e ≡ true → makes_room e ≡ false
+unfolding makes_room
+makes_no_room Issue h = refl
+makes_no_room (Read u) h = refl
+makes_no_room (Finish u) h = refl
+makes_no_room (Store u) h = refl
+makes_no_room (Accept p) h = refl
+makes_no_room (Return c) h = refl
+makes_no_room (BankFree b) h = refl
+makes_no_room (Ask n) h = absurd (cc)
+makes_no_room Exchange h = refl
+makes_no_room (PpRead a) h = absurd (cc)
+makes_no_room (PpWrite a v) h = absurd (cc)
+
+-- an event of memory that finds nothing to act on has no other answer
+pub only_nothing : (w : Processor) (e : Event) (a : Result Done Refusal) → is_of_memory e ≡ true
+    → allowed w e ≡ Some Nothing → IsAnswer w e a → a ≡ Err Nothing
+unfolding answer_of answer_by
+only_nothing w e a q n (inl h) = h ∙ ap (answer_by (done_by w e)) n
+only_nothing w e a q n (inr h) = let k = sym (makes_no_room e q) ∙ h.growing in cc

@@ -1,7 +1,7 @@
 //! The machine with its lock held.
-ghost use Rattle.std.specs.Prelude.{◌≡◌, ◌≢◌, ◌≤◌, ◌||◌, ◌⊎◌, ℕ, true, false, None, Some, not, IfErr, IfOk};
+ghost use Rattle.std.specs.Prelude.{◌≡◌, ◌≢◌, ◌<◌, ◌≤◌, ◌||◌, ◌⊎◌, ℕ, true, false, None, Some, not, Err, IfErr, IfOk};
 ghost use Rattle.std.specs.Prelude.{MatchResult, if◌then◌else◌};
-ghost use Rattle.instructions.specs.declared.refusal.Refusal.TheVariants.{NotDrained, OutOfMemory, Stranger};
+ghost use Rattle.instructions.specs.declared.refusal.Refusal.TheVariants.{Nothing, NotDrained, OutOfMemory, Stranger};
 ghost use Rattle.sequential.specs.Log.{issued};
 ghost use Rattle.sequential.specs.Replay.{Issued, Exchanged, ReadAt, Wrote, boot, replay};
 ghost use Rattle.in_flight.specs.Lookup.{is_pending};
@@ -335,9 +335,12 @@ impl<K: Naming> LockedMachine<K> {
     ///
     /// # Errors
     /// `BankBusy` or `OlderAtAddress`. `Nothing` if the place is empty.
+    #[tactic(auto, using(crate::proofs::Laws::only_nothing))]
     pub fn accept(&mut self, place: u8) -> Result<(), Refusal>
-        ensures { IsHeldEvent self.old (Accept place) (made_or_refused result) self.new }
+        ensures event { IsHeldEvent self.old (Accept place) (made_or_refused result) self.new }
+        ensures no_place { 3 < place → result ≡ Err Nothing }
     {
+        self.machine.keeps_limits();
         let accepted = self.machine.accept(place);
         self.machine.keeps_replay();
         accepted?;
@@ -349,9 +352,13 @@ impl<K: Naming> LockedMachine<K> {
     ///
     /// # Errors
     /// `ResultHeld`. `Nothing` if the channel is empty.
+    #[tactic(auto, using(crate::proofs::Laws::only_nothing))]
     pub fn return_load(&mut self, channel: u8) -> Result<(), Refusal>
-        ensures { IsHeldEvent self.old (Return channel) (made_or_refused result) self.new }
+        ensures event { IsHeldEvent self.old (Return channel) (made_or_refused result) self.new }
+        ensures no_channel { channel ≡ 0 → result ≡ Err Nothing }
+        ensures channels { 5 < channel → result ≡ Err Nothing }
     {
+        self.machine.keeps_limits();
         let returned = self.machine.return_load(channel);
         self.machine.keeps_replay();
         returned?;
@@ -363,9 +370,12 @@ impl<K: Naming> LockedMachine<K> {
     ///
     /// # Errors
     /// `Nothing` if the bank isn't busy.
+    #[tactic(auto, using(crate::proofs::Laws::only_nothing))]
     pub fn bank_free(&mut self, bank: u8) -> Result<(), Refusal>
-        ensures { IsHeldEvent self.old (BankFree bank) (made_or_refused result) self.new }
+        ensures event { IsHeldEvent self.old (BankFree bank) (made_or_refused result) self.new }
+        ensures no_bank { 31 < bank → result ≡ Err Nothing }
     {
+        self.machine.keeps_limits();
         let freed = self.machine.bank_free(bank);
         self.machine.keeps_replay();
         freed?;

@@ -1,4 +1,4 @@
-ghost use Rattle.std.specs.Prelude.{◌≡◌, ◌≤◌, ◌||◌, ◌⊎◌, ℕ, true, false, [], Some, IfErr, IfOk};
+ghost use Rattle.std.specs.Prelude.{◌≡◌, ◌<◌, ◌≤◌, ◌||◌, ◌⊎◌, ℕ, true, false, [], Some, Err, IfErr, IfOk};
 ghost use Rattle.std.specs.Prelude.{MatchResult};
 ghost use Rattle.instructions.specs.declared.refusal.Refusal.TheVariants.{Nothing, NotDrained, OutOfMemory, Stranger};
 ghost use Rattle.sequential.specs.Log.{issued};
@@ -367,7 +367,8 @@ impl<K: Naming> Shared<K> {
     /// `BankBusy` or `OlderAtAddress`. `Nothing` if the place is empty.
     #[tactic(auto, unfolding(program_order::specs::Refusals::may_refuse))]
     pub fn accept<R: Wait>(&self, rt: &R, place: u8) -> Result<(), Refusal>
-        ensures { IfErr result (λ refusal. (is_nothing refusal || is_accept_refusal refusal) ≡ true) }
+        ensures named { IfErr result (λ refusal. (is_nothing refusal || is_accept_refusal refusal) ≡ true) }
+        ensures no_place { 3 < place → result ≡ Err Nothing }
     {
         let mut machine = self.lock(rt);
         let accepted = machine.accept(place);
@@ -381,7 +382,9 @@ impl<K: Naming> Shared<K> {
     /// `ResultHeld`. `Nothing` if the channel is empty.
     #[tactic(auto, unfolding(program_order::specs::Refusals::may_refuse))]
     pub fn return_load<R: Wait>(&self, rt: &R, channel: u8) -> Result<(), Refusal>
-        ensures { IfErr result (λ refusal. (is_nothing refusal || is_return_refusal refusal) ≡ true) }
+        ensures named { IfErr result (λ refusal. (is_nothing refusal || is_return_refusal refusal) ≡ true) }
+        ensures no_channel { channel ≡ 0 → result ≡ Err Nothing }
+        ensures channels { 5 < channel → result ≡ Err Nothing }
     {
         let mut machine = self.lock(rt);
         let returned = machine.return_load(channel);
@@ -395,7 +398,8 @@ impl<K: Naming> Shared<K> {
     /// `Nothing` if the bank isn't busy.
     #[tactic(auto, unfolding(program_order::specs::Refusals::may_refuse))]
     pub fn bank_free<R: Wait>(&self, rt: &R, bank: u8) -> Result<(), Refusal>
-        ensures { IfErr result (λ refusal. is_nothing refusal ≡ true) }
+        ensures named { IfErr result (λ refusal. is_nothing refusal ≡ true) }
+        ensures no_bank { 31 < bank → result ≡ Err Nothing }
     {
         let mut machine = self.lock(rt);
         let freed = machine.bank_free(bank);

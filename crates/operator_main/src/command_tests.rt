@@ -87,7 +87,67 @@ const ASKING_ANSWERS: &[u8] = b"\
     X7 00000000000000000000\n\
     LOG E360 I1 E40 I1\n";
 
-const CASES: [Case<'static>; 12] = [
+/// A deck whose program ends in an instruction across the end of its word.
+const STRADDLING: &[u8] = b"\
+    core 256\n\
+    at 41\n\
+    word 00000100000000000000\n\
+    word 00000020000000000000\n\
+    at 100\n\
+    word 46000460004600071100\n\
+    start 40\n\
+    end\n";
+
+/// The output of that deck's run.
+const STRADDLING_DUMP: &[u8] = b"\
+    P 000000 PARCEL 3 HELD 46000460004600071100\n\
+    HALT straddle FAULT none\n\
+    RA 000100 FL 000020 EM 000000\n\
+    A 000000 000000 000000 000000 000000 000000 000000 000000\n\
+    B 000000 000000 000000 000000 000000 000000 000000 000000\n\
+    X0 00000000000000000000\n\
+    X1 00000000000000000000\n\
+    X2 00000000000000000000\n\
+    X3 00000000000000000000\n\
+    X4 00000000000000000000\n\
+    X5 00000000000000000000\n\
+    X6 00000000000000000000\n\
+    X7 00000000000000000000\n\
+    LOG E40 I4\n";
+
+/// A deck whose second load is out of range, with an exit mode that records the fault.
+const FAULTING: &[u8] = b"\
+    core 256\n\
+    at 41\n\
+    word 00000100000000000000\n\
+    word 00000020000000000000\n\
+    word 00010000000000000000\n\
+    at 100\n\
+    word 51100000175120000020\n\
+    word 46000460004600000000\n\
+    at 117\n\
+    word 123\n\
+    start 40\n\
+    end\n";
+
+/// The dump after both loads and a NO.
+const FAULTING_DUMP: &[u8] = b"\
+    P 000001 PARCEL 1 HELD 46000460004600000000\n\
+    HALT running FAULT address\n\
+    RA 000100 FL 000020 EM 010000\n\
+    A 000000 000017 000020 000000 000000 000000 000000 000000\n\
+    B 000000 000000 000000 000000 000000 000000 000000 000000\n\
+    X0 00000000000000000000\n\
+    X1 00000000000000000123\n\
+    X2 00000000000000000000\n\
+    X3 00000000000000000000\n\
+    X4 00000000000000000000\n\
+    X5 00000000000000000000\n\
+    X6 00000000000000000000\n\
+    X7 00000000000000000000\n\
+    LOG E40 I3\n";
+
+const CASES: [Case<'static>; 17] = [
     Case {
         name: "a run",
         arguments: &["run"],
@@ -159,6 +219,51 @@ const CASES: [Case<'static>; 12] = [
         status: 0,
         printed: TWO_ADDS_DUMP,
         told: b"",
+    },
+    Case {
+        name: "a run that a straddling instruction halts",
+        arguments: &["run"],
+        deck: STRADDLING,
+        rest: b"",
+        status: 3,
+        printed: STRADDLING_DUMP,
+        told: b"",
+    },
+    Case {
+        name: "the replay of a log with an address fault",
+        arguments: &["replay", "E40 I3"],
+        deck: FAULTING,
+        rest: b"",
+        status: 4,
+        printed: FAULTING_DUMP,
+        told: b"",
+    },
+    Case {
+        name: "the replay of a text that is no log",
+        arguments: &["replay", "E40 I2 I2"],
+        deck: TWO_ADDS,
+        rest: b"",
+        status: 2,
+        printed: b"",
+        told: b"cdc6600: bad log\n",
+    },
+    Case {
+        name: "the replay of an exchange with a package past the memory",
+        arguments: &["replay", "E361"],
+        deck: TWO_ADDS,
+        rest: b"",
+        status: 2,
+        printed: b"",
+        told: b"cdc6600: E19 package range\n",
+    },
+    Case {
+        name: "the replay of an access past the memory",
+        arguments: &["replay", "R400"],
+        deck: TWO_ADDS,
+        rest: b"",
+        status: 2,
+        printed: b"",
+        told: b"cdc6600: E27 peripheral range\n",
     },
     Case {
         name: "a list of words and instructions",

@@ -7,9 +7,11 @@
 //! the position of the fault in a refused line. `main` buffers the output, so that printing a piece takes no system
 //! call. `progress` shows at a terminal that a long run is still going.
 //!
-//! Its tests call `program`. Their first table is `CASES` in `command_tests`: a call of each command with its whole
-//! output. `device_tests` has readers and writers that fail. Fault lines, and the exit statuses of machines that halt or
-//! fault, are in decks/, which `tools/check decks` and `tools/check pages` try. Begin with `program::program`.
+//! Its tests call `program`. Their first table is `CASES` in `command_tests`: calls of each command with their whole
+//! output, exit status and fault line. `device_tests` has readers and writers that fail, and `fault_tests` arguments
+//! that can't be read. Together they bring about each exit status and each kind of fault line, except that of
+//! `ProgramFault::Stuck`. decks/, which `tools/check decks` and `tools/check pages` try, has more decks and refused
+//! lines. Begin with `program::program`.
 #![tactic(auto)]
 
 mod program;

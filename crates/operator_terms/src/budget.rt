@@ -11,13 +11,12 @@ pub struct Budget {
 
 impl Model for Budget {
     ghost use Rattle.std.specs.Prelude.{ℕ, ◌≤◌};
-    ghost use Rattle.instructions.specs.declared.limits.TheConstants.{MOST_ISSUES};
 
     ghost Value = { ℕ };
 
     ghost view = { λ b. b.instructions };
 
-    ghost invariant = { λ b. b.instructions ≤ MOST_ISSUES };
+    ghost invariant = { λ b. b.instructions ≤ 10000000 };
 
     ghost inverse = { λ n. record { instructions = n } };
 }
@@ -25,7 +24,7 @@ impl Model for Budget {
 impl Budget {
     /// The budget of this many instructions, or `None` if the number is 0 or above `MOST_ISSUES`.
     pub fn new(instructions: u64) -> Option<Budget>
-        ensures { SomeIff result ((1 ≤ instructions) × (instructions ≤ MOST_ISSUES)) instructions }
+        ensures { SomeIff result ((1 ≤ instructions) × (instructions ≤ 10000000)) instructions }
     {
         if instructions == 0 || instructions > MOST_ISSUES {
             return None;
@@ -36,7 +35,7 @@ impl Budget {
     /// The number of instructions.
     pub fn get(self) -> u64
         ensures value { result ≡ self }
-        ensures range { result ≤ MOST_ISSUES }
+        ensures range { result ≤ 10000000 }
     {
         self.instructions
     }

@@ -11,7 +11,6 @@ use Rattle.in_flight.specs.declared.pending.Pending.{Pending}
 use Rattle.in_flight.specs.Tests.{Test}
 use Rattle.in_flight.specs.Lookup.{is_pending}
 use Rattle.program_order.specs.Processor.{Processor}
-use Rattle.instructions.specs.declared.limits.TheConstants.{MOST_REQUESTS}
 
 -- ---- the refusals ----
 
@@ -19,7 +18,7 @@ use Rattle.instructions.specs.declared.limits.TheConstants.{MOST_REQUESTS}
 -- does not lie in memory
 unfoldable pub ask_tests : ℕ → Option ℕ → ℕ → ℕ → List Test
 ask_tests asked request size n =
-    record { fails = nat_le MOST_REQUESTS asked; refusal = Budget }
+    record { fails = nat_le 1000000 asked; refusal = Budget }
     ∷ record { fails = is_some request; refusal = ExchangeBusy }
     ∷ record { fails = not (package_fits n size); refusal = PackageRange }
     ∷ []

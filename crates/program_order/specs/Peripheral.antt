@@ -10,13 +10,12 @@ use Rattle.in_flight.specs.declared.pending.Pending.{Pending}
 use Rattle.in_flight.specs.Pending.{delays_access}
 use Rattle.in_flight.specs.Tests.{Test}
 use Rattle.program_order.specs.Processor.{Processor}
-use Rattle.instructions.specs.declared.limits.TheConstants.{MOST_ACCESSES}
 
 -- E3, budget: 1,000,000 accesses were accepted; E26, peripheral waits: a reference has not reached its store event, or
 -- a reference to the word waits in the hopper; E27, peripheral range: the word does not lie in memory
 unfoldable pub access_tests : ℕ → List Pending → ℕ → ℕ → List Test
 access_tests accessed pending size a =
-    record { fails = nat_le MOST_ACCESSES accessed; refusal = Budget }
+    record { fails = nat_le 1000000 accessed; refusal = Budget }
     ∷ record { fails = list_any (delays_access a) pending; refusal = PeripheralWait }
     ∷ record { fails = not (nat_lt a size); refusal = PeripheralRange }
     ∷ []

@@ -3,7 +3,7 @@
 use super::dump::Dump;
 use super::schedule::Schedule;
 
-pub const SCHEDULES: [Schedule; 12] = [
+pub const SCHEDULES: [Schedule; 13] = [
     Schedule {
         name: "nothing is issued until a jump is made",
         deck: "\
@@ -427,5 +427,52 @@ pub const SCHEDULES: [Schedule; 12] = [
             log: "E40 I2",
         },
         memory: &[(0o104, "01000000204600046000"), (0o120, "5")],
+    },
+    Schedule {
+        name: "a return jump waits for its turn behind a load",
+        deck: "\
+            core 256\n\
+            at 41\n\
+            word 00000100000000000000\n\
+            word 00000030000000000000\n\
+            at 100\n\
+            word 51100000100100000020\n\
+            at 110\n\
+            word 7\n\
+            start 40\n\
+            show 120 120\n\
+            end\n",
+        budget: 1_000_000,
+        steps: &[
+            ("ask 40", "ok"),
+            ("exchange", "ok"),
+            ("issue", "ok increment1 1"),
+            ("issue", "ok branch 2"),
+            ("read branch", "ok"),
+            ("finish branch", "ok"),
+            ("store branch", "E12 out of turn"),
+            ("read increment1", "ok"),
+            ("finish increment1", "ok"),
+            ("store increment1", "ok"),
+            ("store branch", "ok"),
+            ("accept 1", "ok"),
+            ("accept 0", "ok"),
+            ("return 1", "ok"),
+        ],
+        left: 0,
+        dump: Dump {
+            begins: "\
+                P 000021 PARCEL 0 HELD none\n\
+                HALT running FAULT none\n\
+                RA 000100 FL 000030 EM 000000\n",
+            registers: &[("A1", "10"), ("X1", "7")],
+            shows: "M 000120 04000000010000000000\n",
+            log: "E40 I2",
+        },
+        memory: &[
+            (0o100, "51100000100100000020"),
+            (0o110, "7"),
+            (0o120, "04000000010000000000"),
+        ],
     },
 ];

@@ -3,7 +3,7 @@
 use super::dump::Dump;
 use super::schedule::Schedule;
 
-pub const SCHEDULES: [Schedule; 5] = [
+pub const SCHEDULES: [Schedule; 6] = [
     Schedule {
         name: "an exchange that is asked for in the middle of a word waits until no word is held",
         deck: "\
@@ -280,6 +280,47 @@ pub const SCHEDULES: [Schedule; 5] = [
             (0o216, "00000000000010000000"),
             (0o217, "00000001000000000000"),
             (0o226, "7"),
+        ],
+    },
+    Schedule {
+        name: "a request that waits when the machine halts is still made",
+        deck: "\
+            core 256\n\
+            at 41\n\
+            word 00000100000000000000\n\
+            word 00000020000000000000\n\
+            at 61\n\
+            word 00000110000000000000\n\
+            word 00000020000000000000\n\
+            at 100\n\
+            word 46000000000000000000\n\
+            start 40\n\
+            end\n",
+        budget: 1_000_000,
+        steps: &[
+            ("ask 40", "ok"),
+            ("exchange", "ok"),
+            ("issue", "ok"),
+            ("ask 60", "ok"),
+            ("issue", "ok"),
+            ("issue", "E1 halted stop"),
+            ("exchange", "ok"),
+        ],
+        left: 0,
+        dump: Dump {
+            begins: "\
+                P 000000 PARCEL 0 HELD none\n\
+                HALT running FAULT none\n\
+                RA 000110 FL 000020 EM 000000\n",
+            registers: &[],
+            shows: "",
+            log: "E40 I2 E60",
+        },
+        memory: &[
+            (0o61, "00000100000000000000"),
+            (0o62, "00000020000000000000"),
+            (0o67, "00000001000000000000"),
+            (0o100, "46000000000000000000"),
         ],
     },
 ];

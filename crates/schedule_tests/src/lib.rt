@@ -3,7 +3,7 @@
 //!
 //! Each schedule is made in every way of making events: as the lines of a session, one by one, as one list, and by the
 //! calls of a machine under its lock. `schedule` defines a row, and `schedule_tests` makes each row. `tools/check
-//! schedules` gives the same rows to the program. Begin with the table `SCHEDULES` in `register_schedules`.
+//! decks` gives the same rows to the program. Begin with the table `SCHEDULES` in `register_schedules`.
 #![tactic(auto)]
 
 #[cfg(test)]

@@ -3,7 +3,7 @@
 use super::dump::Dump;
 use super::schedule::Schedule;
 
-pub const SCHEDULES: [Schedule; 9] = [
+pub const SCHEDULES: [Schedule; 13] = [
     Schedule {
         name: "a load returns before the product reads, and that before the sum stores",
         deck: "\
@@ -461,5 +461,173 @@ pub const SCHEDULES: [Schedule; 9] = [
             log: "E40 I1 R111 R110 W110=5",
         },
         memory: &[(0o100, "51600000100000000000"), (0o110, "5")],
+    },
+    Schedule {
+        name: "a peripheral processor writes before anything else happens",
+        deck: "\
+            core 512\n\
+            start 40\n\
+            show 400 400\n\
+            end\n",
+        budget: 1_000_000,
+        steps: &[
+            ("ppwrite 400 5", "ok"),
+            ("ppread 400", "ok 00000000000000000005"),
+        ],
+        left: 0,
+        dump: Dump {
+            begins: "\
+                P 000000 PARCEL 0 HELD none\n\
+                HALT stop FAULT none\n\
+                RA 000000 FL 000000 EM 000000\n",
+            registers: &[],
+            shows: "M 000400 00000000000000000005\n",
+            log: "W400=5 R400",
+        },
+        memory: &[(0o47, "0"), (0o400, "5")],
+    },
+    Schedule {
+        name: "a peripheral processor waits for a load in the second increment unit",
+        deck: "\
+            core 256\n\
+            at 41\n\
+            word 00000100000000000000\n\
+            word 00000020000000000000\n\
+            at 100\n\
+            word 71200000055110000010\n\
+            at 110\n\
+            word 7\n\
+            start 40\n\
+            end\n",
+        budget: 1_000_000,
+        steps: &[
+            ("ask 40", "ok"),
+            ("exchange", "ok"),
+            ("issue", "ok increment1 1"),
+            ("issue", "ok increment2 2"),
+            ("ppread 0", "E26 peripheral waits"),
+            ("read increment2", "ok"),
+            ("finish increment2", "ok"),
+            ("store increment2", "ok"),
+            ("ppread 0", "ok 00000000000000000000"),
+            ("read increment1", "ok"),
+            ("finish increment1", "ok"),
+            ("store increment1", "ok"),
+            ("accept 0", "ok"),
+            ("return 1", "ok"),
+        ],
+        left: 0,
+        dump: Dump {
+            begins: "\
+                P 000001 PARCEL 0 HELD none\n\
+                HALT running FAULT none\n\
+                RA 000100 FL 000020 EM 000000\n",
+            registers: &[("A1", "10"), ("X1", "7"), ("X2", "5")],
+            shows: "",
+            log: "E40 I2 R0",
+        },
+        memory: &[(0o100, "71200000055110000010"), (0o110, "7")],
+    },
+    Schedule {
+        name: "a store waits for the register that it stores",
+        deck: "\
+            core 256\n\
+            at 41\n\
+            word 00000100000000000010\n\
+            word 00000020000000000001\n\
+            at 100\n\
+            word 71600000055661246000\n\
+            start 40\n\
+            show 111 111\n\
+            end\n",
+        budget: 1_000_000,
+        steps: &[
+            ("ask 40", "ok"),
+            ("exchange", "ok"),
+            ("issue", "ok increment1 1"),
+            ("issue", "ok increment2 2"),
+            ("read increment2", "E9 operand awaited X6"),
+            ("read increment1", "ok"),
+            ("finish increment1", "ok"),
+            ("store increment1", "ok"),
+            ("read increment2", "ok"),
+            ("finish increment2", "ok"),
+            ("store increment2", "ok"),
+            ("accept 0", "ok"),
+        ],
+        left: 0,
+        dump: Dump {
+            begins: "\
+                P 000000 PARCEL 3 HELD 71600000055661246000\n\
+                HALT running FAULT none\n\
+                RA 000100 FL 000020 EM 000000\n",
+            registers: &[("A6", "11"), ("B1", "10"), ("B2", "1"), ("X6", "5")],
+            shows: "M 000111 00000000000000000005\n",
+            log: "E40 I2",
+        },
+        memory: &[(0o100, "71600000055661246000"), (0o111, "5")],
+    },
+    Schedule {
+        name: "a load waits for its bank, and a drain frees that bank alone",
+        deck: "\
+            core 256\n\
+            at 41\n\
+            word 00000100000000000000\n\
+            word 00000060000000000000\n\
+            at 100\n\
+            word 51100000105120000050\n\
+            word 51300000370000000000\n\
+            at 110\n\
+            word 1\n\
+            at 137\n\
+            word 3\n\
+            at 150\n\
+            word 2\n\
+            start 40\n\
+            end\n",
+        budget: 1_000_000,
+        steps: &[
+            ("ask 40", "ok"),
+            ("exchange", "ok"),
+            ("issue", "ok increment1 1"),
+            ("issue", "ok increment2 2"),
+            ("read increment1", "ok"),
+            ("finish increment1", "ok"),
+            ("store increment1", "ok"),
+            ("read increment2", "ok"),
+            ("finish increment2", "ok"),
+            ("store increment2", "ok"),
+            ("issue", "ok increment1 3"),
+            ("read increment1", "ok"),
+            ("finish increment1", "ok"),
+            ("store increment1", "ok"),
+            ("accept 2", "ok"),
+            ("accept 0", "ok"),
+            ("accept 1", "E13 bank busy 8"),
+        ],
+        left: 5,
+        dump: Dump {
+            begins: "\
+                P 000001 PARCEL 2 HELD 51300000370000000000\n\
+                HALT running FAULT none\n\
+                RA 000100 FL 000060 EM 000000\n",
+            registers: &[
+                ("A1", "10"),
+                ("A2", "50"),
+                ("A3", "37"),
+                ("X1", "1"),
+                ("X2", "2"),
+                ("X3", "3"),
+            ],
+            shows: "",
+            log: "E40 I3",
+        },
+        memory: &[
+            (0o100, "51100000105120000050"),
+            (0o101, "51300000370000000000"),
+            (0o110, "1"),
+            (0o137, "3"),
+            (0o150, "2"),
+        ],
     },
 ];

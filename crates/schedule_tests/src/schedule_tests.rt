@@ -398,3 +398,29 @@ fn branches(rt: HostRuntime) -> Result<(), Fail> {
 fn exchanges(rt: HostRuntime) -> Result<(), Fail> {
     expect_all(&rt, exchange_schedules::SCHEDULES.as_slice())
 }
+
+/// Makes the events of a schedule without looking at their answers, and drains the machine.
+fn make_and_drain(machine: &mut Machine, schedule: &Schedule) -> Result<(), Fail> {
+    for (line, _) in schedule.steps {
+        let _ = machine.apply(event_of(line)?);
+    }
+    machine.drain();
+    Ok(())
+}
+
+/// Whether these banks are busy, and no others.
+fn are_busy(machine: &Machine, banks: &[u8]) -> bool {
+    (0..32u8).all(|bank| machine.is_bank_busy(bank) == banks.contains(&bank))
+}
+
+/// The last schedule of loads leaves two banks busy. A drain frees bank 8, for which a load waits, and that load then
+/// takes it. Bank 31, for which nothing waits, stays busy.
+#[test]
+fn busy_banks(rt: HostRuntime) -> Result<(), Fail> {
+    let schedule = &reference_schedules::SCHEDULES[12];
+    let deck = deck_of(rt.alloc(), schedule)?;
+    let mut machine = booted(rt.alloc(), &deck, schedule)?;
+    make_and_drain(&mut machine, schedule)?;
+    assert!(rt; are_busy(&machine, &[8, 31]), "{}", schedule.name);
+    Ok(())
+}

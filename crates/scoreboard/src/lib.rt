@@ -12,6 +12,7 @@
 
 mod board;
 mod fields;
+mod instances;
 mod issued;
 mod reservation;
 mod units;
@@ -19,6 +20,7 @@ mod writer;
 mod writers;
 
 pub use board::Board;
+pub use instances::{a_reserved_result_is_refused, an_instruction_does_not_wait_for_itself};
 pub use issued::Issued;
 pub use reservation::{Occupancy, Reservation};
 pub use units::{is_same_unit, unit_number};

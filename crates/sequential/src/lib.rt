@@ -9,6 +9,7 @@
 #![tactic(auto)]
 
 mod fetching;
+mod instances;
 mod log;
 mod position;
 mod replaying;
@@ -17,6 +18,9 @@ mod stepping;
 mod work;
 
 pub use fetching::Fetched;
+pub use instances::{
+    an_access_stays_after_the_instruction, an_exchange_stays_after_the_instruction,
+};
 pub use instructions::ParcelNumber;
 pub use log::{Entry, Log};
 pub use position::ProgramPosition;

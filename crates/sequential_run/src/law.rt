@@ -4,7 +4,6 @@ ghost use Rattle.sequential.specs.declared.state.State.{State as SomeState};
 ghost use Rattle.sequential.specs.Replay.{LogStep};
 ghost use Rattle.sequential_run.specs.Made.{IsMadeByEvents};
 ghost use Rattle.sequential_run.specs.Run.{IsSequentialRun};
-ghost use Rattle.instructions.specs.declared.limits.TheConstants.{MOST_REQUESTS};
 
 /// Two sequential runs with the same memory, first package, requests and budget have the same log and the same final
 /// state.
@@ -21,5 +20,5 @@ pub fn a_run_has_one_result()
 pub fn a_run_by_one_is_made_by_events()
     ensures { (memory : List ℕ) → (start : ℕ) → (after : List (ℕ × ℕ)) → (free : List ℕ) → (budget : ℕ)
         → (log : List LogStep) → (s : SomeState) → IsSequentialRun memory start after free budget log s
-        → length after + length free < MOST_REQUESTS → IsMadeByEvents memory budget log s }
+        → length after + length free < 1000000 → IsMadeByEvents memory budget log s }
 {}

@@ -63,15 +63,18 @@ const CONTENTS: [(usize, bool, Part, &str); 12] = [
     (8, true, Part::UnreadOperands, "3 X1 1\n3 X2 2\n"),
 ];
 
-/// Events after those of `ENTERED`, with the answer that each would get and the instructions that hold it back.
-const JUDGEMENTS: [(Event, &str); 7] = [
-    (Event::Issue, "ok\n"),
-    (Event::Read(Unit::Increment1), "ok\n"),
-    (Event::Read(Unit::LongAdd), "E9 operand awaited X1\n1\n"),
-    (Event::Store(Unit::LongAdd), "E15 nothing\n"),
-    (Event::Accept(0), "ok\n"),
-    (Event::PpRead(0o117), "E26 peripheral waits\n1\n2\n"),
-    (Event::PpRead(0), "E26 peripheral waits\n2\n"),
+/// How many of the events of `ENTERED` are made; a further event, the answer that it would get, and the instructions that
+/// hold it back.
+const JUDGEMENTS: [(usize, Event, &str); 9] = [
+    (2, Event::Issue, "ok increment1 1\n"),
+    (3, Event::Issue, "ok increment2 2\n"),
+    (8, Event::Issue, "ok\n"),
+    (8, Event::Read(Unit::Increment1), "ok\n"),
+    (8, Event::Read(Unit::LongAdd), "E9 operand awaited X1\n1\n"),
+    (8, Event::Store(Unit::LongAdd), "E15 nothing\n"),
+    (8, Event::Accept(0), "ok\n"),
+    (8, Event::PpRead(0o117), "E26 peripheral waits\n1\n2\n"),
+    (8, Event::PpRead(0), "E26 peripheral waits\n2\n"),
 ];
 
 /// The machine after the first events.
@@ -127,8 +130,8 @@ fn expect_judgement(
 
 #[test]
 fn judgements(rt: HostRuntime) -> Result<(), Fail> {
-    let machine = after(rt.alloc(), &ENTERED, false)?;
-    for (event, wanted) in &JUDGEMENTS {
+    for (made, event, wanted) in &JUDGEMENTS {
+        let machine = after(rt.alloc(), &ENTERED[..*made], false)?;
         expect_judgement(&rt, &machine, *event, wanted)?;
     }
     Ok(())

@@ -19,7 +19,7 @@ use std::sync::Wait;
 use std::sync::atomic::{AtomicU64, Ordering};
 use std::test::Fail;
 use std::thread;
-use std::thread::Threads;
+use std::thread::{Threads, join};
 use std::time::Clock;
 use unit_queue::{Lane, SendPass, TakePass, lane};
 use unit_workers::{Ended, Orders, run_threads};
@@ -979,6 +979,77 @@ fn served_by_memory<K: Naming, R: Wait>(
     shared.end(rt);
     storage_worker(rt, &shared);
     Ok([was_drained, shared.drained(rt)])
+}
+
+/// A machine that has issued BX3 X1*X2 and SA1 B0+17. The load is in place 0 of the hopper, and can't return until the
+/// Boolean unit has read the old X1.
+fn held_by_a_reader(alloc: Global) -> Result<Machine, Refusal> {
+    let mut machine = booted(alloc, &[(0o100, "11312511000001746000")])?;
+    for event in [Event::Ask(0o40), Event::Exchange, Event::Issue] {
+        let _ = machine.apply(event)?;
+    }
+    for event in LOAD {
+        let _ = machine.apply(event)?;
+    }
+    Ok(machine)
+}
+
+/// The storage worker goes on after the end until the machine is drained: it returns a load that an unread operand held.
+#[test]
+fn returns_a_held_load_after_the_end(rt: HostRuntime) -> Result<(), Fail> {
+    let machine = held_by_a_reader(rt.alloc())?;
+    let ground = Ground::new(rt.alloc())?;
+    let ended = end_with_a_reader::<Brand, _>(&rt, rt.alloc(), ground, machine)?;
+    assert_eq!(rt; ended, (true, true));
+    Ok(())
+}
+
+/// Tells the users of a machine to end, and then does the work of memory and of the Boolean unit, each in a thread.
+/// Returns whether the unit stored, and whether the machine is drained then.
+fn end_with_a_reader<K: Naming + Send + Sync, R: Threads + Wait + Sync>(
+    rt: &R,
+    alloc: Global,
+    ground: Ground,
+    machine: Machine,
+) -> Result<(bool, bool), Refusal>
+    requires { ground ≡ K.table }
+{
+    let (shared, seats, _) = Shared::<K>::open(alloc, ground, machine)?;
+    let mut boolean = Some(of_boolean(seats));
+    shared.end(rt);
+    let is_stored = serve_beside_memory(rt, &shared, &mut boolean);
+    let was_taken = is_empty(boolean);
+    Ok((was_taken && is_stored, shared.drained(rt)))
+}
+
+/// Does the work of memory in one thread and that of the Boolean unit in another. Returns whether the unit stored.
+fn serve_beside_memory<K: Naming + Send + Sync, R: Threads + Wait + Sync>(
+    rt: &R,
+    shared: &Shared<K>,
+    boolean: &mut Option<Seat>,
+) -> bool {
+    let ((), is_stored) = join(
+        rt,
+        || storage_worker(rt, shared),
+        || serve_later(rt, shared, boolean),
+    );
+    is_stored
+}
+
+/// Serves the first reservation with the seat in a holder, some milliseconds later. Returns whether it was stored.
+fn serve_later<K: Naming, R: Wait>(rt: &R, shared: &Shared<K>, holder: &mut Option<Seat>) -> bool {
+    for _ in 0..20u32 {
+        shared.signals().requests.sleep(rt, 1);
+    }
+    match holder.take() {
+        None => false,
+        Some(seat) => {
+            let given = note(Unit::Boolean, 1);
+            let (seat, is_stored) = serve(rt, shared, given, seat, &mut Open);
+            seat.leave();
+            is_stored
+        }
+    }
 }
 
 /// The storage worker accepts the references in all four places of the hopper, and returns their loads.

@@ -13,10 +13,12 @@ ghost use Rattle.instructions.specs.declared.refusal.Refusal.TheVariants.{OutOfM
 ghost use Rattle.unit_queue.specs.Lanes.{send_end, take_end};
 
 mod ends;
+mod instances;
 mod item;
 mod rule;
 
 pub use ends::{Lane, SendPass, TakePass};
+pub use instances::a_new_lane_refuses_no_note;
 use instructions::{Refusal, Unit};
 pub use item::Item;
 use std::alloc::Global;

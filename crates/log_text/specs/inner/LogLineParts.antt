@@ -1,7 +1,6 @@
 -- The parts of reading the log in the line after a deck: the fields of the line, and the entries read so far.
 -- Source: ours.
-use Rattle.std.specs.Prelude.{◌≡◌, ◌≢◌, ◌⊎◌, ℕ, suc, Bool, false, List, [], ◌∷◌, ◌++◌, length, All, Option, codes}
-use Rattle.log_text.specs.declared.following_log.TheConstants.{LONGEST_ENTRY}
+use Rattle.std.specs.Prelude.{◌≡◌, ◌≢◌, ◌⊎◌, ℕ, Bool, false, List, [], ◌∷◌, ◌++◌, length, All, Option, codes}
 use Rattle.std.specs.Str.{bytes_eq}
 use Rattle.sequential.specs.declared.log.Log.{Log}
 use Rattle.device_text.specs.Line.{IsText}
@@ -19,7 +18,7 @@ IsInField text = IsText text × All (λ b. b ≢ 32) text
 abbrev pub FieldTaken : FieldEnd → List ℕ → List ℕ → List ℕ → Type 0
 FieldTaken Space text xs ys = xs ≡ text ++ 32 ∷ ys
 FieldTaken Line text xs ys = (xs ≡ text ++ 10 ∷ ys) ⊎ ((xs ≡ text) × (ys ≡ []))
-FieldTaken Long text xs ys = (length text ≡ suc LONGEST_ENTRY) × (xs ≡ text ++ ys)
+FieldTaken Long text xs ys = (length text ≡ 29) × (xs ≡ text ++ ys)
 
 -- the entries of a line were read, from the bytes xs after its first field to the bytes ys. The first field had this
 -- text and this end

@@ -1,3 +1,5 @@
+//! The refusals of an access by a peripheral processor.
+
 ghost use Rattle.std.specs.Prelude.{◌≡◌, ◌<◌, OnOk};
 ghost use Rattle.in_flight.specs.Tests.{refusal_in, refusal_of};
 ghost use Rattle.program_order.specs.Peripheral.{access_tests};
@@ -17,7 +19,7 @@ pub(crate) fn judge_access(
     at: u32,
 ) -> Result<(), Refusal>
     ensures answer { refusal_of (access_tests accessed in_flight.now.pending size at) ≡ refusal_in result }
-    ensures bound { OnOk result (accessed < MOST_ACCESSES) }
+    ensures bound { OnOk result (accessed < 1000000) }
     ensures within { OnOk result (at < size) }
 {
     if accessed >= MOST_ACCESSES {

@@ -1,3 +1,5 @@
+//! The refusals of a request for an exchange, and those of the exchange.
+
 ghost use Rattle.std.specs.Prelude.{◌≡◌, ◌<◌, IfOk, OnOk, Some};
 ghost use Rattle.in_flight.specs.Tests.{refusal_in, refusal_of};
 ghost use Rattle.program_order.specs.Exchange.{ask_tests, exchange_tests};
@@ -16,7 +18,7 @@ pub(crate) fn judge_ask(
     at: u32,
 ) -> Result<(), Refusal>
     ensures answer { refusal_of (ask_tests asked request.now size at) ≡ refusal_in result }
-    ensures bound { OnOk result (asked < MOST_REQUESTS) }
+    ensures bound { OnOk result (asked < 1000000) }
 {
     if asked >= MOST_REQUESTS {
         return Err(Refusal::Budget);

@@ -1,3 +1,5 @@
+//! The refusals E1 to E6 of an issue, and the fetch of the instruction that an allowed issue takes.
+
 ghost use Rattle.std.specs.Prelude.{◌≡◌, ◌<◌, IfOk, MatchResult, OnOk, Some};
 ghost use Rattle.sequential.specs.State.{bounds_of};
 ghost use Rattle.sequential.specs.Step.{fetch};

@@ -1,3 +1,5 @@
+//! The refusal of a unit's finish.
+
 ghost use Rattle.std.specs.Prelude.{◌≡◌, IfOk, Some};
 ghost use Rattle.in_flight.specs.declared.pending.Stage.TheVariants.{Read as HasRead};
 ghost use Rattle.in_flight.specs.Lookup.{located, stage_at};

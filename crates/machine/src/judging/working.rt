@@ -1,3 +1,5 @@
+//! The next event of the oldest pending instruction, which a drain makes.
+
 ghost use Rattle.std.specs.Prelude.{◌≡◌};
 ghost use Rattle.program_order.specs.Drain.{next_in, next_of};
 
