@@ -10,6 +10,7 @@ from typing import Iterator
 import pytest
 from failing_calls import Failing
 from running import Runner, library_of
+from small_checkout import Checkout
 
 from cdc6600.checks.browsers import CLIENTS, why_left_out
 from cdc6600.checks.web_driver import Browser
@@ -52,6 +53,12 @@ def modules(tmp_path_factory: pytest.TempPathFactory) -> Path:
     folder = tmp_path_factory.mktemp("modules")
     subprocess.run([ROOT / "tools/build-module", folder], check=True)
     return folder
+
+
+@pytest.fixture
+def checkout(tmp_path: Path) -> Checkout:
+    """A small checkout in which nothing is built."""
+    return Checkout(tmp_path)
 
 
 @pytest.fixture

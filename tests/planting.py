@@ -23,10 +23,12 @@ MATCH = "        match op {\n"
 # The number of the fault comes before the log.
 LOG, LOG_AFTER = "std::env::args().nth(1)", "std::env::args().nth(2)"
 CHOOSING = """
-static CHOSEN: std::sync::OnceLock<usize> = std::sync::OnceLock::new();
+thread_local! {
+    static CHOSEN: usize = std::env::args().nth(1).and_then(|it| it.parse().ok()).expect("a number");
+}
 
 fn planted() -> usize {
-    *CHOSEN.get_or_init(|| std::env::args().nth(1).and_then(|it| it.parse().ok()).expect("a number"))
+    CHOSEN.with(|it| *it)
 }
 """
 JUMP, RETURN_JUMP, STOP, PASS = "02", "010", "00", "46"

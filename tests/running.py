@@ -75,6 +75,18 @@ class Runner:
         return Ended.of(*Program(self.path).run(words, text, minutes, environment))
 
 
+def states_of(variable: str) -> dict[int, str]:
+    """The processes that have this variable, such as `NAME=value`, by their numbers: each with the letter of its state,
+    which is T if it is stopped. A process that has ended has no variables."""
+    found = {}
+    for folder in Path("/proc").glob("[0-9]*"):
+        # Another process may end meanwhile.
+        with suppress(OSError):
+            if variable.encode() in (folder / "environ").read_bytes().split(b"\0"):
+                found[int(folder.name)] = (folder / "stat").read_text(encoding="utf-8").rpartition(") ")[2][0]
+    return found
+
+
 def library_of(source: str, folder: Path) -> Path:
     """The library that a source in C of this folder makes, to be loaded by LD_PRELOAD."""
     library = folder / f"{source}.so"

@@ -7,71 +7,26 @@ or of the kit.
 
 from __future__ import annotations
 
-import os
 import random
 import shutil
+import signal
 import subprocess
 from pathlib import Path
 from typing import Any
 
 import pytest
 from running import called
+from small_checkout import Checkout, write_all, write_workspace
 
-from cdc6600.building.building import Plan
+from cdc6600.building import processes
+from cdc6600.building.building import Plan, ended
 from cdc6600.building.forecast import FIRST, Forecast
 from cdc6600.crates.table import Table
 from cdc6600.shared.program import ROOT
 from cdc6600.shared.waiting import finish, wait_until
 
-FUNCTION = """//! {0}.
-#![tactic(auto)]
-
-ghost use Rattle.std.specs.Prelude.{{◌≡◌}};
-
-/// {0}.
-pub fn {1}() -> u64
-    ensures {{ result ≡ {2} }}
-{{
-    {3}
-}}
-"""
-# The sources of three crates, each of which calls the one before it.
-SOURCES = {
-    "lower/src/lib.rt": FUNCTION.format("The smallest number above none", "one", 1, 1),
-    "upper/src/lib.rt": FUNCTION.format("Twice that number", "two", 2, "lower::one() + lower::one()"),
-    "{main}/src/main.rt": """//! A program that does nothing to be seen.
-#![tactic(auto)]
-
-fn main() {
-    let _ = upper::two();
-}
-""",
-}
-# The list of crates has comments and empty lines, which count for nothing.
-TABLE = "# The lower one first.\n\n# Low\nlower:\n\n  # High\nupper: lower\n{main}: upper\n"
-# What the library for C is of: a crate that stands on one of the program's crates and on another one.
-OF_LIBRARY = {
-    "beside/src/lib.rt": "", "embedding/src/lib.rt": "", "embedding/include/cdc6600.h": "",
-    "embedding/include/cdc6600.map": "",
-}
-TABLE_OF_LIBRARY = "beside: lower\nembedding: beside upper\n"
 ALL_OF_LIBRARY, OWN_OF_LIBRARY = ["beside", "embedding", "lower", "upper"], ["beside", "embedding"]
 NAMES = ["lower", "upper", "operator_main"]
-# This kit notes each crate that it is to prove, and waits until there is a file `go`.
-KIT = ROOT / "tests/kit"
-
-
-def write_all(folder: Path, files: dict[str, str]) -> None:
-    """Writes files below a folder."""
-    for path, text in files.items():
-        (folder / path).parent.mkdir(parents=True, exist_ok=True)
-        (folder / path).write_text(text, encoding="utf-8")
-
-
-def write_workspace(root: Path, main: str, others: str = "") -> None:
-    """Writes the three crates, with this name of the program's crate, and their list with further lines."""
-    write_all(root, {"crates.txt": TABLE.replace("{main}", main) + others})
-    write_all(root / "crates", {path.replace("{main}", main): text for path, text in SOURCES.items()})
 
 
 # ---- what is built, and what is said ----
@@ -102,64 +57,30 @@ def test_unproved_crate_is_told(tmp_path: Path) -> None:
     assert any(line.startswith("fn upper::two: no proof") for line in lines)
 
 
+def test_signal_while_a_command_begins(tmp_path: Path, monkeypatch: pytest.MonkeyPatch) -> None:
+    """The command is ended though the tool doesn't know of it yet when the signal comes."""
+    begun, begin = list[subprocess.Popen[bytes]](), subprocess.Popen
+
+    def begin_with_a_signal(*words: Any, **how: Any) -> subprocess.Popen[bytes]:
+        begun.append(begin(*words, **how))
+        signal.raise_signal(signal.SIGTERM)
+        return begun[0]
+
+    def work() -> int:
+        return processes.run(["sleep", "infinity"], tmp_path).status
+
+    monkeypatch.setattr(processes, "RUNNING", processes.Running())
+    monkeypatch.setattr(subprocess, "Popen", begin_with_a_signal)
+    before = {number: signal.getsignal(number) for number in processes.ENDING}
+    with pytest.raises(SystemExit):
+        ended(work)
+    for number, handler in before.items():
+        signal.signal(number, handler)
+    signal.set_wakeup_fd(-1)
+    assert [it.wait() for it in begun] == [-signal.SIGTERM]
+
+
 # ---- when ./cdc6600 builds the program, in a copy of the repository with three crates of nothing ----
-
-
-class Checkout:
-    """Such a copy, and a kit that proves nothing."""
-
-    def __init__(self, room: Path) -> None:
-        self.room, self.root, self.told = room, room / "root", ""
-        shutil.copytree(KIT, room / "kit")
-        left_out = shutil.ignore_patterns("checks", "gate", "__pycache__")
-        for name in ("tools", "docs"):
-            shutil.copytree(ROOT / name, self.root / name, ignore=left_out)
-        shutil.copy(ROOT / "cdc6600", self.root)
-        write_workspace(self.root, "operator_main", TABLE_OF_LIBRARY)
-        write_all(self.root / "crates", OF_LIBRARY)
-        self.built = self.root / "crates/operator_main/out/operator_main"
-        self.notes, self.go = room / "notes", room / "go"
-        self.notes.touch()
-        self.go.touch()
-
-    def start(
-        self, *words: str | Path, root: Path | None = None, command: str = "cdc6600", has_kit: bool = True,
-        stderr: Any = subprocess.PIPE,
-    ) -> subprocess.Popen[str]:
-        """Calls the script or another one; its process."""
-        folders = [it for it in os.environ["PATH"].split(":") if not (Path(it) / "rt").exists()]
-        path = ":".join([*[str(self.room / "kit/bin")] * has_kit, *folders])
-        environment = {**os.environ, "PATH": path, "NOTES": str(self.notes), "GO": str(self.go), "CDC6600": ""}
-        words = (root or self.root) / command, *words
-        return subprocess.Popen(words, stdout=subprocess.PIPE, stderr=stderr, text=True, env=environment)
-
-    def answer(self, *words: str | Path, **how: Any) -> tuple[str, list[str]]:
-        """Calls the script; what it prints, and the names of the crates that were proved for it."""
-        before = len(self.noted())
-        with self.start(*words, **how) as process:
-            printed, self.told = finish(process, " ".join(map(str, words)))
-        assert process.returncode == 0, self.told
-        return printed, self.noted()[before:]
-
-    def noted(self) -> list[str]:
-        """The names of the crates that were proved."""
-        return self.notes.read_text(encoding="utf-8").split()
-
-    def change(self, crate: str, text: str) -> None:
-        """Writes the list of a crate's definitions."""
-        write_all(self.root / "crates", {f"{crate}/specs/Lib.antt": text})
-
-    def build_library(self) -> list[str]:
-        """The names of the crates that are proved for the library."""
-        printed, proved = self.answer(self.room / "made", command="tools/build-library")
-        assert printed == "" and (self.room / "made/libcdc6600.so").exists()
-        return proved
-
-
-@pytest.fixture
-def checkout(tmp_path: Path) -> Checkout:
-    """A checkout in which nothing is built."""
-    return Checkout(tmp_path)
 
 
 def test_content_counts(checkout: Checkout) -> None:
@@ -174,8 +95,28 @@ def test_content_counts(checkout: Checkout) -> None:
     assert checkout.answer("run", root=copy, has_kit=False) == kept
     checkout.change("lower", "")
     assert checkout.answer("run") == proved
-    write_all(checkout.room, {"kit/KIT-ID": "another kit\n"})
-    assert checkout.answer("run") == proved
+
+
+def test_another_kit_is_told(checkout: Checkout) -> None:
+    said = "cdc6600: the program is built again because the kit is `another kit` now and was `a kit of a test`\n"
+    for option in (list[str](), ["--unproved"]):
+        write_all(checkout.room, {"kit/KIT-ID": "a kit of a test\n"})
+        checkout.answer(*option, "run")
+        assert "built again" not in checkout.told
+        write_all(checkout.room, {"kit/KIT-ID": "another kit\n"})
+        assert checkout.answer(*option, "run")[1] == (["unproved"] if option else NAMES)
+        assert said in checkout.told
+    checkout.change("lower", "")
+    write_all(checkout.room, {"kit/KIT-ID": "a third kit\n"})
+    assert checkout.answer("run")[1] == NAMES and "built again" not in checkout.told
+
+
+def test_kit_that_is_missing_is_told(checkout: Checkout) -> None:
+    checkout.answer("run")
+    checkout.change("lower", "")
+    with checkout.start("run", has_kit=False) as process:
+        told = finish(process, "./cdc6600")[1]
+    assert process.returncode == 126 and "the kit isn't installed" in told and "built again" not in told
 
 
 def test_library_takes_what_the_program_left(checkout: Checkout) -> None:

@@ -70,14 +70,14 @@ TABLES = {
 3|IX3 X1+X2|longadd|30|31|34|34|||read: E9 operand awaited X2 (reservation 2), 1 cycle
 4|IX4 X2-X1|longadd|34|34|37|37|||issue: E7 unit busy longadd (reservation 3), 3 cycles
 """, BANK: """
-1|SA1 B0+1|increment1|26|26|29|29|30|35|
-2|SA2 B0+41|increment2|28|28|31|31|40|45|accept: E13 bank busy 1 (reservation 1), 8 cycles
+1|SA1 B0+1|increment1|26|26|29|29|29|34|
+2|SA2 B0+41|increment2|28|28|31|31|39|44|accept: E13 bank busy 1 (reservation 1), 8 cycles
 """,
 }
 # What JSON has of the last reservation, and of what held that of the session conflicts.
 OBJECT = {
     "reservation": 2, "instruction": "SA2 B0+41", "unit": "increment2", "issue": 28, "read": 28, "finish": 31,
-    "store": 31, "accepted": 40, "returned": 45,
+    "store": 31, "accepted": 39, "returned": 44,
     "held": {"event": "accept", "rule": "E13", "reason": "E13 bank busy 1", "by": [1], "cycles": 8},
 }
 HELD = {"event": "issue", "rule": "E7", "reason": "E7 unit busy longadd", "by": [3], "cycles": None}
@@ -287,11 +287,11 @@ def test_pieces(tmp_path: Path) -> None:
     page = printed("timeline", "--html", "--cycles", scheduled(tmp_path, FOLDER / "source/total.source"))
     timeline, units = map(pictures_of, re.findall(r'<div class="pieces".*?</div>', page, re.DOTALL))
     for pieces in (timeline, units):
-        assert [it.columns for it in pieces] == [[0, *range(26, 65)], [*range(65, 78)]]
+        assert [it.columns for it in pieces] == [[0, *range(26, 65)], [*range(65, 74)]]
     whole = max((it.marks for it in pictures_of(page)), key=len)
     counts = [sum(height > 66 for height, *_ in marks) for marks in (whole, [*timeline[0].marks, *timeline[1].marks])]
     assert counts[0] == counts[1]
-    assert max(height for height, *_ in timeline[1].marks) == 22 * 6
+    assert max(height for height, *_ in timeline[1].marks) == 22 * 5
 
 
 def test_gallery(tmp_path: Path) -> None:

@@ -89,10 +89,11 @@ def test_refusal(program: Runner, text: str, fault: str, position: str) -> None:
 
 
 @pytest.mark.parametrize("run", RUNS, ids=" ".join)
-@pytest.mark.parametrize("lines, budget, status, log", rows_of(PAGES / "requests.md"))
-def test_request(program: Runner, run: Sequence[str], lines: str, budget: str, status: str, log: str) -> None:
+@pytest.mark.parametrize("lines, budget, status, logs", rows_of(PAGES / "requests.md"))
+def test_request(program: Runner, run: Sequence[str], lines: str, budget: str, status: str, logs: str) -> None:
     text = deck("four-packages").text.removesuffix(b"end\n") + f"{lines.replace('; ', chr(10))}\nend\n".encode()
-    race(program, [*run, "--budget", budget], text, [log], int(status))
+    of_threads = logs.split(", ")
+    race(program, [*run, "--budget", budget], text, of_threads if run == THREADED else of_threads[-1:], int(status))
 
 
 # ---- worked schedules ----

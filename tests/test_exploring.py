@@ -54,8 +54,8 @@ ONE = "SX1 B0+1; PS"
 TWO = "SX1 B0+1; MX2 5; PS"
 COUNTED = {
     ONE: (11, 13, 4, 29, 31), TWO: (39, 74, 224, 31, 35),
-    "decks/two-adds.deck": (60, 104, 2240, 37, 44), "decks/run/short-field.deck": (217, 474, 341004, 35, 53),
-    "decks/run/load-store.deck": (249, 588, 809488, 42, 65),
+    "decks/two-adds.deck": (60, 104, 2240, 37, 44), "decks/run/short-field.deck": (217, 474, 341004, 34, 52),
+    "decks/run/load-store.deck": (249, 588, 809488, 40, 63),
 }
 # The words of a call, the status, and the last line that is told.
 CALLS = (

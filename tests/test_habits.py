@@ -68,7 +68,7 @@ CALLED = (
     "trace two-adds.deck",
 )
 # What README.md names that only a checkout has.
-OF_CHECKOUT = re.compile(r"tools/(install|build-library|build-module|build-program)")
+OF_CHECKOUT = re.compile(r"tools/(debian-packages|install|build-library|build-module|build-program)")
 INSTALL, WITHOUT_LIBRARY = ROOT / "tools/install", ("--without", "library")
 OF_PAGES = "share/doc/cdc6600"
 # A file of each other part.

@@ -269,6 +269,17 @@ def test_too_small(operate: Operating) -> None:
     assert terminal.ended() == Ended(0)
 
 
+@pytest.mark.parametrize("code", ("C.UTF-8", "C"))
+def test_no_letters(operate: Operating, code: str) -> None:
+    """Bytes that are no letter in the terminal's code are passed over, each alone."""
+    terminal = operate(FILE, environment={"LC_ALL": code})
+    terminal.wait_for("after 0 events")
+    terminal.send(b"\xe9ne\xff\x80xt\xc3 \xc3\xa97\r")
+    terminal.wait_for("after 7 events")
+    terminal.type("quit\rquit\r")
+    assert terminal.ended() == Ended(0)
+
+
 def test_registers_below(operate: Operating) -> None:
     """The registers are below the events if there is room for them all."""
     terminal = operate(FILE)

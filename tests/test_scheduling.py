@@ -50,12 +50,12 @@ FAULTY = "decks/run/refused.deck"
 # issued at 31, waits three cycles, and is issued at 34. NO follows at 35 and PS at 36. The last issue is over at 37,
 # and IX4 is stored then.
 #
-# Of the two loads, SA1 is issued at 26, stored at 29, accepted at 30 and returned at 35; its bank is busy up to 40. SA2
-# is issued at 28, stored at 31, could be accepted at 32, is accepted at 40 and returned at 45. PS is issued at 30, and
-# from 31 on the machine is halted.
+# Of the two loads, SA1 is issued at 26, stored and accepted at 29 and returned at 34; its bank is busy up to 39. SA2 is
+# issued at 28, stored at 31, could be accepted then, is accepted at 39 and returned at 44. PS is issued at 30, and from
+# 31 on the machine is halted.
 BY_HAND = (
     ((ROOT / DECK).read_text(encoding="ascii"), (37, 34, {"E7": 3}, [{}, {}, {"E9": 1}, {}])),
-    (BANK, (45, 31, {"E1": 14}, [{}, {"E13": 8}])),
+    (BANK, (44, 31, {"E1": 13}, [{}, {"E13": 8}])),
 )
 # What is told of a file of times that is the default one with a text for another.
 BAD_TIMES = (
@@ -65,7 +65,7 @@ BAD_TIMES = (
     ("shift 3", "boolean 3", "line 13, column 1: 'boolean' is named twice"),
     ("shift 3", "  shaft 3", "line 13, column 3: 'shaft' is no name of a time"),
     ("issue15 1", "issue15 0", "line 8, column 9: '0' is no number from 1 to 9999"),
-    ("bank 10", "#", "line 25, column 1: the file ends without bank"),
+    ("bank 10", "#", "line 27, column 1: the file ends without bank"),
 )
 # The words of a call, the status, and the last line that is told.
 CALLS = (

@@ -10,6 +10,7 @@ from __future__ import annotations
 
 import os
 import re
+import shutil
 from pathlib import Path
 from typing import Any, Sequence
 
@@ -24,8 +25,9 @@ from cdc6600.refuting.choosing import Choice, with_bodies
 from cdc6600.shared.program import ROOT
 from cdc6600.wrong_bodies.assumed import as_proved, assumed
 from cdc6600.wrong_bodies.copies import beside, can_stand_beside, copied, copy_of
-from cdc6600.wrong_bodies.edits import EQUIVALENT, UNSURE as NOT_SURE, merged, read_bodies, read_body
+from cdc6600.wrong_bodies.edits import LET_THROUGH, UNSURE as NOT_SURE, merged, read_bodies, read_body
 from cdc6600.wrong_bodies.groups import clash, grouped, reached
+from cdc6600.wrong_bodies.kept import ROWS, read_rows, sum_of_contracts, sum_of_crate
 from cdc6600.wrong_bodies.libraries import stamps
 from cdc6600.wrong_bodies.opening import Opening, opened
 from cdc6600.wrong_bodies.second import after_one
@@ -50,7 +52,10 @@ REFUSED: dict[str, Edit] = {
     "closure_adds_one_once": ("        plus_one(after)", "        plus_one(y)"),
     "two_after_the_next": ("    two_more(x)", "    two_more(x + 1)"),
     "none_is_double": ("    number + number", "    number - number"),
+    "most_is_eleven": ("pub const MOST: u64 = 10;", "pub const MOST: u64 = 11;"),
 }
+# The one that changes a constant, which only a contract names.
+OF_CONSTANT = "most_is_eleven"
 # What the runner says of each edit that is no wrong body, and the edit.
 TOLD: dict[str, tuple[str, Edit]] = {
     "right": ("it is PROVED", ("if a < b { a } else { b }", "if b < a { b } else { a }")),
@@ -191,7 +196,7 @@ def test_caller_and_callee_are_apart(tiny: Tiny, one: str, other: str, is_apart:
 
 def test_copy_stands_beside(tiny: Tiny) -> None:
     apart = [name for name, body in tiny.bodies.items() if not can_stand_beside(body, tiny.source, tiny.crate)]
-    assert apart == ["too_heavy"]
+    assert sorted(apart) == [OF_CONSTANT, "too_heavy"]
     (copies,) = copied([tiny.bodies["adds_one_once"], tiny.bodies["with_no_other"]], tiny.source, tiny.crate)
     texts = beside(copies, tiny.source)
     library, inline = texts["src/lib.rt"], "    #[inline]\n    pub fn with_another"
@@ -204,7 +209,7 @@ def test_copy_stands_beside(tiny: Tiny) -> None:
 
 def test_each_body_is_behind_its_number(tiny: Tiny) -> None:
     chosen = with_bodies(tiny.source, [*tiny.bodies.values()])
-    assert (sorted(chosen.numbers), chosen.left) == (sorted(REFUSED), [])
+    assert (sorted(chosen.numbers), chosen.left) == (sorted(REFUSED.keys() - {OF_CONSTANT}), [OF_CONSTANT])
     arm = f"{{\nif crate::chosen_body() == {chosen.numbers['larger_of_two']} {{\n    if a < b {{ b }} else {{ a }}\n}}"
     assert f"{arm} else\n{{\n    if a < b {{ a }} else {{ b }}\n}}\n}}" in chosen.texts["src/lib.rt"]
 
@@ -227,7 +232,7 @@ def test_first_difference_is_told(status: int | None, printed: bytes, told: str 
     assert Ran(status, printed, b"").differs(Ran(0, b"ok\nE1 halted\n", b"")) == told
 
 
-@pytest.mark.parametrize("word", [EQUIVALENT, NOT_SURE])
+@pytest.mark.parametrize("word", [LET_THROUGH, NOT_SURE])
 def test_reason_is_read(tiny: Tiny, tmp_path: Path, word: str) -> None:
     file = tmp_path / "body.edit"
     file.write_text(f"file: src/lib.rt\nold:     x + x\nnew:     x * 2\n{word}: it is twice\n", encoding="utf-8")
@@ -374,21 +379,26 @@ def has_line(ran: Ended, begin: str, part: str = "") -> bool:
 
 
 def counted(tried: int, let_through: int = 0, unsure: int = 0) -> str:
-    """The last line."""
+    """The last line but one."""
     return f"{tried} wrong bodies, {let_through} not refused, {unsure} can't tell"
 
 
-def change_what_is_read(root: Path) -> None:
-    """Changes a file that the check of each body reads."""
-    with (root / CRATE / "specs/After.antt").open("a", encoding="utf-8") as file:
-        file.write("\n-- Read by the check.\n")
+def add_to(file: Path, text: str) -> None:
+    with file.open("a", encoding="utf-8") as it:
+        it.write(text)
+
+
+def tried(ran: Ended) -> list[str]:
+    """The bodies that the prover tried in a run in which it refused each."""
+    assert ran.status == 0, ran.printed
+    return sorted(line.split(":")[0] for line in ran.lines if ": refused at " in line)
 
 
 @pytest.fixture(scope="session")
 def every(tmp_path_factory: pytest.TempPathFactory) -> Ended:
     """How the runner ends on every edit."""
     edits = REFUSED | {name: edit for name, (_, edit) in TOLD.items()} | UNSURE
-    return runs(write_edits(tmp_path_factory.mktemp("every"), edits))
+    return runs(write_edits(tmp_path_factory.mktemp("every"), edits), "--prover")
 
 
 @pytest.mark.parametrize("begin, part", SAID.values(), ids=SAID)
@@ -397,22 +407,23 @@ def test_edit(every: Ended, begin: str, part: str) -> None:
 
 
 def test_count(every: Ended) -> None:
-    assert (every.status, every.lines[-1]) == (1, counted(len(SAID), len(TOLD), len(UNSURE)))
+    assert (every.status, every.lines[-2]) == (1, counted(len(SAID), len(TOLD), len(UNSURE)))
 
 
 def test_fault_of_another_is_not_told(tmp_path: Path) -> None:
     ran = runs(write_edits(tmp_path, {"adds_two": REFUSED["adds_two"], "no_such_name": NO_VERDICT}))
-    assert (ran.status, ran.lines[-1]) == (1, counted(2, 1))
+    assert (ran.status, ran.lines[-2]) == (1, counted(2, 1))
     assert has_line(ran, *SAID["adds_two"]) and has_line(ran, "NOT REFUSED tiny/no_such_name: ", "error[")
 
 
-def test_what_was_refused_is_kept(tmp_path: Path) -> None:
-    ran = runs(write_edits(tmp_path, {"adds_two": REFUSED["adds_two"]}))
-    assert (ran.status, ran.lines[-1]) == (0, counted(1))
-    ran = runs(tmp_path)
-    assert ran.status == 0 and has_line(ran, "", " 0 groups")
-    change_what_is_read(tmp_path)
-    assert has_line(runs(tmp_path), "", " 1 groups") and has_line(runs(tmp_path, "--anew"), "", " 1 groups")
+def test_what_was_tried_is_kept(tmp_path: Path) -> None:
+    """A run tries what an earlier one of the user hasn't, as long as what it depends on is the same."""
+    write_edits(tmp_path, {"adds_two": REFUSED["adds_two"]})
+    assert [tried(runs(tmp_path)) for _ in range(2)] == [["tiny/adds_two"], []]
+    add_to(tmp_path / CRATE / "src/lib.rt", "\n// No code.\n")
+    assert [tried(runs(tmp_path)), tried(runs(tmp_path, "--anew", "tiny"))] == [[], ["tiny/adds_two"]]
+    add_to(tmp_path / CRATE / "specs/After.antt", "\npub once_more : ℕ → ℕ\nonce_more x = x\n")
+    assert tried(runs(tmp_path)) == ["tiny/adds_two"]
 
 
 def test_bodies_of_the_night_are_left_out_while_nothing_changes(tmp_path: Path) -> None:
@@ -420,12 +431,50 @@ def test_bodies_of_the_night_are_left_out_while_nothing_changes(tmp_path: Path) 
     for name, folder in folders.items():
         write_edits(tmp_path, {name: REFUSED[name]}, folder)
     for word, count in (("", 1), ("--all", 3), ("", 1), ("tiny", 3)):
-        assert runs(tmp_path, *word.split()).lines[-1] == counted(count)
-    change_what_is_read(tmp_path)
-    assert [runs(tmp_path).lines[-1] for _ in range(2)] == [counted(3), counted(1)]
+        assert runs(tmp_path, *word.split()).lines[-2] == counted(count)
+    add_to(tmp_path / CRATE / "specs/After.antt", "\npub once_more : ℕ → ℕ\nonce_more x = x\n")
+    assert [runs(tmp_path).lines[-2] for _ in range(2)] == [counted(3), counted(1)]
+
+
+def test_table_is_rested_on(tmp_path: Path) -> None:
+    """Only those are tried for which something has changed since the table was written, by whoever."""
+    names = [f"tiny/{name}" for name in ("adds_two", "larger_of_two")]
+    write_edits(tmp_path, {name.removeprefix("tiny/"): REFUSED[name.removeprefix("tiny/")] for name in names})
+    assert tried(runs(tmp_path, "--write")) == names
+    shutil.rmtree(tmp_path / "cache")
+    ran = runs(tmp_path)
+    assert tried(ran) == [] and ran.lines[-3:-1] == [f"2 verdicts are those of {ROWS}", counted(2)]
+    rows = read_rows(tmp_path)
+    assert [*rows] == names and rows[names[0]].verdict.words == "`returns` of plus_one"
+    edit = "file: src/lib.rt\nold:     x + 1\nnew:     x + 3\n"
+    (tmp_path / CRATE / "wrong-bodies/adds_two.edit").write_text(edit, encoding="utf-8")
+    assert tried(runs(tmp_path)) == [names[0]]
+    file = tmp_path / ROWS
+    file.write_text(file.read_text(encoding="utf-8").replace("`returns` of", "`first` of"), encoding="utf-8")
+    told = f"tools/wrong-bodies: {ROWS}: it isn't as `tools/wrong-bodies --write` has written it"
+    assert runs(tmp_path).lines[0] == told
+
+
+def test_contracts_below_count(tmp_path: Path) -> None:
+    """The sum of a crate changes with the contracts below it, and with no body, comment or test there."""
+    write_edits(tmp_path, {})
+    source = tmp_path / CRATE / "src/lib.rt"
+
+    def total() -> str:
+        sum_of_contracts.cache_clear()
+        return sum_of_crate(Table(tmp_path), "above")
+
+    (tmp_path / "crates.txt").write_text("tiny:\nabove: tiny\n", encoding="utf-8")
+    before = total()
+    other = LIBRARY.replace("    x + 1\n", "    1 + x\n").replace("// One more.", "// More.")
+    source.write_text(other, encoding="utf-8")
+    (tmp_path / CRATE / "src/tiny_tests.rt").write_text("fn one() {}\n", encoding="utf-8")
+    assert total() == before
+    source.write_text(LIBRARY.replace("result ≡ x + 1", "result ≡ 1 + x"), encoding="utf-8")
+    assert total() != before
 
 
 def test_unlisted_crate_is_told(tmp_path: Path) -> None:
     (write_edits(tmp_path, {}) / "crates.txt").write_text("# nothing\n", encoding="utf-8")
     ran = runs(tmp_path, "tiny")
-    assert (ran.status, ran.lines[0]) == (1, "NOT REFUSED tiny: crates.txt lists no such crate")
+    assert (ran.status, ran.lines[0]) == (1, "tools/wrong-bodies: tiny: crates.txt lists no such crate")

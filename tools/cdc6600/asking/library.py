@@ -47,12 +47,16 @@ def build(*words: str) -> None:
 
 def is_unproved() -> bool:
     """Whether the program that runs in a checkout is the one without its proof."""
-    return not named_program() and not is_current(BUILT) and is_current(UNPROVED)
+    if named := named_program():
+        return named == str(UNPROVED)
+    return not is_current(BUILT) and is_current(UNPROVED)
 
 
 def unproved_path() -> Path:
-    """The library without its proof, which is told. It is built first if it isn't that of the sources as they are."""
-    tell("UNPROVED: the library is built from the sources without their proof")
+    """The unproved library. Reports that it is unproved, unless CDC6600 names the unproved program. Builds it first if
+    the sources have changed."""
+    if not named_program():
+        tell("UNPROVED: the library is built from the sources without their proof")
     if not is_current(KEPT_UNPROVED):
         build("--unproved")
     return KEPT_UNPROVED

@@ -10,11 +10,13 @@ import shutil
 import signal
 import subprocess
 import sys
+import threading
 import time
 from concurrent.futures import FIRST_COMPLETED, Future, ThreadPoolExecutor, wait
 from contextlib import contextmanager
 from dataclasses import dataclass
 from pathlib import Path
+from types import FrameType
 from typing import Callable, Iterable, Iterator, Mapping
 
 from cdc6600.crates.kit import checker
@@ -23,7 +25,7 @@ from cdc6600.shared.program import ROOT
 
 from . import host
 from .forecast import Forecast, measured
-from .processes import run, stop_all
+from .processes import ENDING, run, stop_all
 
 # What a verdict may not mention: C code, functions that may not return, and parts that were let pass without proof.
 EXCUSES = re.compile(r" (foreign|hides|partial|may-abort|may-serve|bugs|holes)=")
@@ -34,6 +36,8 @@ VERSION = "src/version.rt"
 LINES_BEFORE = 400
 LINES_OF_A_FAULT = 40
 LEAST_URGENT = 19
+# The seconds after which a signal is sent again.
+MOMENT = 0.1
 
 
 class Unproved(Exception):
@@ -80,9 +84,11 @@ class Plan:
 
 
 def commit_of(root: Path) -> str:
-    """The commit of a checkout, `unknown` if it has none, with a plus sign if its sources aren't those of the
-    commit."""
+    """The commit of a checkout, with a plus sign if its sources aren't those of the commit. It is `unknown` if there
+    is none, or no git."""
     git = ["git", "-C", str(root)]
+    if not shutil.which("git"):
+        return "unknown"
     found = subprocess.run([*git, "rev-parse", "--short=12", "HEAD"], capture_output=True, text=True, check=False)
     if found.returncode:
         return "unknown"
@@ -94,6 +100,12 @@ def commit_of(root: Path) -> str:
 def source_sum(root: Path) -> bytes:
     """What an executable of a repository is built from, as tools/source-sum prints it."""
     return subprocess.run([SOURCE_SUM, root], stdout=subprocess.PIPE, check=False).stdout
+
+
+def kits(before: bytes, now: bytes) -> tuple[str, str] | None:
+    """The kits of two texts of tools/source-sum, if only the kit is another one."""
+    (sources, kit), (own, its) = (it.decode(errors="replace").strip().partition("\nkit ")[::2] for it in (before, now))
+    return (kit, its) if sources == own and kit and its and kit != its else None
 
 
 def kit_name() -> str:
@@ -237,11 +249,32 @@ def locked(file: Path) -> Iterator[None]:
         yield
 
 
+def end(number: int, _: FrameType | None) -> None:
+    """Ends this process after a signal, and ignores further signals. Ctrl-C arrives twice: from the terminal, and from
+    the script that waits for this process."""
+    for it in ENDING:
+        signal.signal(it, signal.SIG_IGN)
+    sys.exit(128 + number)
+
+
+def repeat(signals: int) -> None:
+    """Sends each signal to the main thread again, a moment later, if `end` hasn't handled it by then. The main thread
+    misses a signal that arrives just before it begins to wait."""
+    while number := os.read(signals, 1):
+        time.sleep(MOMENT)
+        if signal.getsignal(number[0]) is end:
+            signal.pthread_kill(threading.main_thread().ident or 0, number[0])
+
+
 def ended(work: Callable[[], int]) -> int:
     """Goes through the work of a tool that builds; its status. A signal ends it too, with all that it has started, and
     so does a fault of the system, such as a full disk, with a line."""
-    for number in (signal.SIGTERM, signal.SIGHUP, signal.SIGINT):
-        signal.signal(number, lambda *_: sys.exit(130))
+    signals, caught = os.pipe()
+    os.set_blocking(caught, False)
+    signal.set_wakeup_fd(caught)
+    threading.Thread(target=repeat, args=(signals,), daemon=True).start()
+    for number in ENDING:
+        signal.signal(number, end)
     try:
         return work()
     except (Unproved, Unreadable) as reason:

@@ -4,11 +4,15 @@ import os
 import signal
 import subprocess
 import threading
+from contextlib import contextmanager
 from dataclasses import dataclass
 from pathlib import Path
-from typing import TextIO
+from typing import Iterator, TextIO
 
 from cdc6600.crates.table import Unreadable
+
+# The signals that end a run.
+ENDING = (signal.SIGTERM, signal.SIGHUP, signal.SIGINT)
 
 
 @dataclass
@@ -50,15 +54,42 @@ class Running:
 RUNNING = Running()
 
 
+@contextmanager
+def put_off() -> Iterator[None]:
+    """Delays the signals that end the run until the block is left. Only the main thread handles signals."""
+    if threading.current_thread() is not threading.main_thread():
+        yield
+        return
+    caught = list[int]()
+    before = {number: signal.signal(number, lambda it, _: caught.append(it)) for number in ENDING}
+    try:
+        yield
+    finally:
+        for number, handler in before.items():
+            signal.signal(number, handler)
+        if caught:
+            signal.raise_signal(caught[0])
+
+
 def run(words: list[str], folder: Path) -> Ran:
     """Runs a command to its end, with what it says in the folder's file `said`."""
     with open(folder / "said", "w+", errors="replace", encoding="utf-8") as said:
-        child = RUNNING.start(words, folder, said)
+        child = None
         try:
+            # A signal between the start of the command and this assignment would leave the command running.
+            with put_off():
+                child = RUNNING.start(words, folder, said)
             _, ended, used = os.wait4(child.pid, 0)
             child.returncode = os.waitstatus_to_exitcode(ended)
+        except BaseException:
+            # A signal ends this process. The command ends first, so that it writes nothing more into the folder.
+            RUNNING.end()
+            if child:
+                child.wait()
+            raise
         finally:
-            RUNNING.forget(child)
+            if child:
+                RUNNING.forget(child)
         said.seek(0)
         return Ran(child.returncode, said.read(), used.ru_utime + used.ru_stime)
 

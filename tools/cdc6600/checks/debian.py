@@ -21,7 +21,9 @@ OF_BROWSERS = [program for programs in BROWSERS.values() for program in programs
 # A check that tries what it can without a program, and says what it left out.
 IN_PARTS = ("built-files",)
 # The programs of the list that are modules of Python. Those of the tests have to be in the same Python as pytest.
-MODULES = {"flake8": ["flake8"], **{it: ["pytest", it] for it in ("pexpect", "pyte", "pytest", "xdist")}}
+MODULES = {it: [it] for it in ("flake8", "gdb-stubs")} | {
+    it: ["pytest", it] for it in ("pexpect", "pyte", "pytest", "xdist")
+}
 # Debian's packages put these modules into Debian's Python, which may be another than the one that runs this.
 PYTHONS = (sys.executable, "/usr/bin/python3")
 # What the list has for every check in the folder of tests.

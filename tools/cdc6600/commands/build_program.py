@@ -3,8 +3,8 @@
     tools/build-program [--unproved] [--weights] [FILE]
 
 writes the executable to FILE, or to crates/operator_main/out/operator_main. What it was built from is written to
-FILE.sources: the checksum of tools/source-sum. If that is the same now, nothing is built. If another call builds the
-same FILE, this one waits for it.
+FILE.sources: the checksum of tools/source-sum. If that is the same now, nothing is built. If only the kit is another
+one, that is reported. If another call builds the same FILE, this one waits for it.
 
 The libraries of the crates below are kept in crates/operator_main/out/libraries, so that tools/build-library doesn't
 prove these crates again.
@@ -27,7 +27,9 @@ import time
 from pathlib import Path
 
 from cdc6600.building import unproved
-from cdc6600.building.building import PROGRAM, SOURCE_SUM, Building, Unproved, ended, locked, put, source_sum, tell
+from cdc6600.building.building import (
+    PROGRAM, SOURCE_SUM, Building, Unproved, ended, kits, locked, put, source_sum, tell,
+)
 from cdc6600.building.forecast import MEASURED, MORE
 from cdc6600.building.library import keep_libraries
 from cdc6600.building.processes import run
@@ -74,6 +76,13 @@ def made(given: argparse.Namespace, root: Path, room: Path, sources: bytes) -> P
     return file
 
 
+def tell_kits(kept: Path, now: bytes) -> None:
+    """Reports that the program is built again because of another kit, if that is the only reason."""
+    found = kits(kept.read_bytes(), now) if kept.is_file() else None
+    if found:
+        tell(f"the program is built again because the kit is `{found[1]}` now and was `{found[0]}`")
+
+
 def arguments() -> argparse.Namespace:
     parser = argparse.ArgumentParser(description=__doc__, formatter_class=argparse.RawDescriptionHelpFormatter)
     parser.add_argument("--unproved", action="store_true", help="build it without its proof, as FILE.unproved")
@@ -102,6 +111,7 @@ def work() -> int:
         if is_built():
             return 0
         begun, text = time.time(), source_sum(root)
+        tell_kits(sources, text)
         it = made(given, root, Path(room), text)
         # Without this file the executable doesn't count, so it is never taken for that of other sources.
         sources.unlink(missing_ok=True)

@@ -3,6 +3,10 @@
     tools/check NAME..               these checks, one after another
     tools/check NAME ARGUMENT..      a check with arguments of its own
     tools/check NAME --help          prints what a check does
+    tools/check --stage small        runs the checks of a stage of the gate side by side: `small` or `decks`
+    tools/check --needs              has each program that a check calls do a small piece of work, and imports each
+                                     check, but runs none
+    tools/check --install            installs the packages of tools/debian-packages, except for browsers, for root
 
 docs/work/checks.md describes each check, and says when to run it. A check that finds nothing prints nothing or a line
 of counts. Otherwise it prints its faults, a few lines for each. A check with a file in tests/ is run by pytest, and
@@ -15,6 +19,9 @@ Exit status:
   0    the checks find nothing
   1    a check finds a fault, or can't be run
   2    the command line is refused
+
+A stage leaves out a check if a program that it needs isn't installed, and names it. Its last line is `N passed, M
+failed`.
 """
 
 import os
@@ -27,7 +34,8 @@ from typing import Sequence
 
 from cdc6600.asking.library import KEPT, library_path
 from cdc6600.checks.debian import python_with, require
-from cdc6600.gate.parts import ASKING, DECKS, NAMES, SHARED_OUT, called, command, file_of, is_test, module
+from cdc6600.gate.parts import ASKING, DECKS, NAMES, SHARED_OUT, STAGES, called, command, file_of, is_test, module
+from cdc6600.gate.stages import install, needs, stage
 from cdc6600.generating.checks import docstring_of
 from cdc6600.shared.ending import shown
 from cdc6600.shared.program import ROOT, program_path
@@ -53,9 +61,10 @@ def run_test(name: str, words: Sequence[str]) -> int:
 
 
 def run_one(name: str, words: Sequence[str]) -> int:
-    """Runs a check; its status. A command that a shell starts in the background ignores interrupts, and so would the
-    commands that some checks interrupt."""
+    """Runs a check; its status. A shell's background commands ignore INT, and commands below `nohup` ignore HUP. Checks
+    send both signals to commands, which would inherit that."""
     signal.signal(signal.SIGINT, signal.default_int_handler)
+    signal.signal(signal.SIGHUP, signal.SIG_DFL)
     sys.argv = [called(name), *words]
     require(name)
     if name in ASKING and library_path() == KEPT:
@@ -73,6 +82,10 @@ def main() -> int:
     words = sys.argv[1:]
     if words and words[0] in HELP:
         return shown("tools/check", help_text())
+    if words in (["--needs"], ["--install"]):
+        return needs() if words == ["--needs"] else install()
+    if words[:1] == ["--stage"] and len(words) == 2 and words[1] in STAGES:
+        return stage(words[1])
     if not words or words[0] not in NAMES:
         told = f"{words[0]} is no check" if words else "no check is named"
         print(f"tools/check: {told}; tools/check --help lists them", file=sys.stderr)

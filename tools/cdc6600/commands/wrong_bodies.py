@@ -1,69 +1,82 @@
 """Tries the wrong bodies of the crates: the prover has to refuse each at a goal of its own function's contract.
 
-    tools/wrong-bodies                  those that the gate tries; what was refused before, and is the same, is kept
-    tools/wrong-bodies CRATE..          all of these crates
-    tools/wrong-bodies --all            all of every crate, and those of which it can't tell are run
-    tools/wrong-bodies --refute CRATE.. all of these crates, and those of which it can't tell are run
-    tools/wrong-bodies --anew           whatever was kept
-    tools/wrong-bodies --after-rt-ci    over the libraries that `rt ci` has just left in this checkout
+    tools/wrong-bodies                  tries the gate's bodies that have no known verdict
+    tools/wrong-bodies CRATE..          tries all bodies of these crates
+    tools/wrong-bodies --all            tries all bodies of every crate
+    tools/wrong-bodies --write CRATE..  writes the verdicts on these crates, or on all, to
+                                        docs/proof/all-wrong-bodies.txt, if no body of the crate is let through
+    tools/wrong-bodies --anew           ignores that table and the verdicts of this user's earlier runs
+    tools/wrong-bodies --prover         asks the prover alone, and runs no body
+    tools/wrong-bodies --once           asks the prover alone, by one check, as the gate does
+    tools/wrong-bodies --after-rt-ci    uses the libraries that `rt ci` has just left in this checkout
 
 A wrong body is an edit in crates/NAME/wrong-bodies/, crates/NAME/nightly-bodies/ or crates/NAME/must-fail/. `rt ci`
-tries those of the last folder, which are promised by name, by checks of its own. Of the last two folders this command
-tries a crate's bodies only if it is asked for all, or if the crate has changed since its bodies were last tried on this
-machine. docs/work/CHANGING.md says how one is written.
+tries the promised bodies of the last folder by checks of its own. This command tries the bodies of the last two folders
+only if all bodies are asked for, or if the crate has changed since its bodies were last tried on this machine.
+docs/work/CHANGING.md says how an edit is written. tools/cdc6600/wrong_bodies/kept.py names the inputs of a verdict.
 
 Bodies are tried in groups: tools/cdc6600/wrong_bodies/copies.py, and for the rest groups.py, say why one check can
-judge many.
-tools/cdc6600/wrong_bodies/verdicts.py says what a check refuses, and second.py when that counts. tools/cdc6600/refuting
-runs the others: a body is refuted by a deck, a session or a test for which it does something else. Of one that isn't,
-it can't tell. Its edit gives the reason in a line `unsure: REASON`, and then it isn't run; else it counts as not
-refused. A body that does what the right one does has a line `equivalent: REASON`, and isn't tried. One that its
-contract lets through has a line `let through: REASON`; the prover isn't asked, and a run has to refute it.
+judge many. verdicts.py says what a check refuses, and second.py when that counts. tools/cdc6600/refuting runs the
+others: a body is refuted by a deck, a session or a test for which it does something else. Of one that isn't, it can't
+tell. Its edit gives the reason in a line `unsure: REASON`, and then it isn't run; else it counts as not refused. One
+that its contract lets through has a line `let through: REASON`; the prover isn't asked, and a run has to refute it.
 
-It prints a line for each body with its verdict and the goal or the case, a line for each crate, and last the number of
-bodies, of those that aren't refused, and of those of which it can't tell. The status is 0 if no body counts as not
-refused.
+It prints a line for each body that was tried, with its verdict and the goal or the case, and a line for each body of
+which it can't tell. The last lines count the verdicts of the table, all bodies, bodies that aren't refused, and bodies
+of which it can't tell. The very last line is `N passed, M failed`. The status is 0 if no body counts as not refused.
 """
 
 import argparse
 import signal
+import subprocess
 import sys
 import tempfile
+from datetime import date
 from pathlib import Path
-from typing import Sequence
+from typing import Iterable, Sequence
 
 from cdc6600.building import host
-from cdc6600.crates.kit import kit
+from cdc6600.crates.crate import EDITS
+from cdc6600.crates.kit import logic
 from cdc6600.crates.table import Table, Unreadable
 from cdc6600.refuting.running import refute, unsure_in
 from cdc6600.shared.program import ROOT
-from cdc6600.crates.crate import EDITS
 from cdc6600.wrong_bodies.edits import UNSURE
+from cdc6600.wrong_bodies.kept import ROWS, Kept, read_rows, write_rows
 from cdc6600.wrong_bodies.tries import Crate, Tries, read_crate
-from cdc6600.wrong_bodies.verdicts import CANT_TELL, NOT_REFUSED, REFUTED, Verdict
+from cdc6600.wrong_bodies.verdicts import CANT_TELL, NOT_REFUSED, Verdict
 
 
 def arguments() -> argparse.Namespace:
     parser = argparse.ArgumentParser(description=__doc__, formatter_class=argparse.RawDescriptionHelpFormatter)
     parser.add_argument("crates", nargs="*", metavar="CRATE", help="a crate of crates.txt; none: all of them")
-    parser.add_argument("--all", action="store_true", help="those of all folders; run those of which it can't tell")
-    parser.add_argument("--refute", action="store_true", help="run those of which it can't tell, as --all does")
-    parser.add_argument("--anew", action="store_true", help="try them whatever an earlier run kept")
-    parser.add_argument("--once", action="store_true", help="check each body once, which takes a third of the time")
+    parser.add_argument("--all", action="store_true", help="try the bodies of all folders")
+    parser.add_argument("--write", action="store_true", help=f"try all bodies, and write {ROWS}")
+    parser.add_argument("--anew", action="store_true", help="ignore kept verdicts")
+    parser.add_argument("--prover", action="store_true", help="ask the prover alone")
+    parser.add_argument("--once", action="store_true", help="ask the prover alone, by one check: a third of the time")
     parser.add_argument("--after-rt-ci", action="store_true",
                         help="`rt ci` has just ended well here: take over its libraries")
-    parser.add_argument("--at-once", type=int, default=0,
+    parser.add_argument("--at-once", type=int, default=host.places(), metavar="N",
                         help="how many checks run side by side (default: as the machine allows)")
     parser.add_argument("--root", type=Path, default=ROOT, help=argparse.SUPPRESS)
-    return parser.parse_args()
+    given = parser.parse_args()
+    given.is_run = not given.prover and not given.once
+    if given.write and not given.is_run:
+        parser.error("only verdicts by two checks and by runs are written")
+    given.all |= given.write
+    return given
 
 
-def chosen(table: Table, names: Sequence[str]) -> tuple[list[str], list[str]]:
-    """The crates to try, and a fault for each that crates.txt doesn't list."""
+def chosen(table: Table, names: Sequence[str]) -> list[str]:
+    """The crates to try.
+
+    Raises Unreadable if crates.txt doesn't list one."""
     has_edits = {file.parent.parent.name for part in EDITS for file in table.root.glob(f"crates/*/{part}/*.edit")}
     wanted = set(names) or has_edits
-    faults = [f"{name}: crates.txt lists no such crate" for name in sorted(wanted - set(table.lines))]
-    return [name for name in table.lines if name in wanted], faults
+    for name in sorted(wanted - set(table.lines)):
+        raise Unreadable(f"{name}: crates.txt lists no such crate")
+    return [name for name in table.lines if name in wanted]
 
 
 def not_refused(crate: Crate) -> list[str]:
@@ -81,37 +94,37 @@ def report(crate: Crate) -> None:
     """Prints what the prover found of each of a crate's bodies, but for those of which it can't tell."""
     for line in not_refused(crate):
         print(f"NOT REFUSED {line}", flush=True)
-    for body in crate.bodies:
-        verdict = crate.verdicts.get(body.name)
-        if verdict is not None and verdict.refused:
+    for body in (body for group in crate.groups for body in group.bodies):
+        verdict = crate.verdicts[body.name]
+        if verdict.refused:
             print(f"{crate.name}/{body.name}: refused at {verdict.words}", flush=True)
 
 
-def run_unsure(table: Table, crates: Sequence[Crate], given: argparse.Namespace) -> None:
+def run_unsure(table: Table, crates: Sequence[Crate], at_once: int) -> None:
     """Runs the bodies of which the prover can't tell, and those that their contracts let through, and prints what came
     of each. One that nothing refutes counts as not refused, unless its edit says why nobody can tell."""
-    for crate in crates:
-        crate.bodies += crate.let_through
-        crate.verdicts |= {it.name: Verdict(CANT_TELL, "its contract lets it through") for it in crate.let_through}
-    refute(table, crates, given.at_once or host.places())
+    refute(table, crates, at_once)
     for crate, body in unsure_in(crates):
         if UNSURE not in body.notes:
             words = f"nothing refutes it, and its edit has no line `{UNSURE}: `"
-            crate.verdicts[body.name] = Verdict(NOT_REFUSED, words)
+            crate.tell(body, Verdict(NOT_REFUSED, words))
             print(f"NOT REFUSED {crate.name}/{body.name}: {words}")
 
 
-def print_unsure(crates: Sequence[Crate]) -> None:
-    """Prints the bodies of which it can't tell, with the reason of the edit, or else the goal."""
-    for crate, body in unsure_in(crates):
+def print_unsure(crates: Iterable[Crate]) -> int:
+    """Prints the bodies of which it can't tell, with the reason of the edit, or else the goal; how many they are."""
+    unsure = [(crate, body) for crate in crates for body in [*crate.rested, *crate.bodies]
+              if body.name in crate.verdicts and crate.verdicts[body.name].kind == CANT_TELL]
+    for crate, body in unsure:
         print(f"CAN'T TELL {crate.name}/{body.name}: {body.notes.get(UNSURE) or crate.verdicts[body.name].words}")
+    return len(unsure)
 
 
 def try_all(table: Table, crates: Sequence[Crate], given: argparse.Namespace) -> Tries:
     """Tries what is left to try, and reports each crate once that is done. Returns the run."""
     by_name = {crate.name: crate for crate in crates}
     with tempfile.TemporaryDirectory(prefix="wrong-bodies-") as room:
-        tries = Tries(table, crates, room, given.at_once or host.places(), given.after_rt_ci, given.once)
+        tries = Tries(table, crates, room, given.at_once, given.after_rt_ci, given.once)
         for crate in crates:
             if not crate.groups:
                 report(crate)
@@ -119,36 +132,47 @@ def try_all(table: Table, crates: Sequence[Crate], given: argparse.Namespace) ->
     return tries
 
 
+def write_table(root: Path, crates: Iterable[Crate], names: Sequence[str]) -> None:
+    """Replaces the rows of each crate of which no body is let through."""
+    described = subprocess.run(["git", "-C", str(root), "describe", "--always", "--dirty"], capture_output=True,
+                               text=True, check=False)
+    words = " ".join(["tools/wrong-bodies --write", *names])
+    found = [crate for crate in crates if not not_refused(crate)]
+    tried = {f"{crate.name}/" for crate in found}
+    rows = [row for row in read_rows(root).values() if f"{row.body.partition('/')[0]}/" not in tried]
+    rows += [crate.kept.row(body, crate.verdicts[body.name]) for crate in found for body in crate.bodies]
+    write_rows(root, rows, f"`{words}` of {described.stdout.strip() or 'no commit'} on {date.today()}")
+
+
 def work() -> int:
     given = arguments()
-    table = Table(given.root)
-    names, faults = chosen(table, given.crates)
-    for fault in faults:
-        print(f"NOT REFUSED {fault}")
-    identity = kit()
-    crates = [read_crate(table, name, identity, given) for name in names]
+    table, rows = Table(given.root), {} if given.write or given.anew else read_rows(given.root)
+    number = logic()
+    crates = [read_crate(table, it, Kept(table, it, number, rows, given.anew, given.once), given)
+              for it in chosen(table, given.crates)]
     tries = try_all(table, crates, given)
-    if given.all or given.refute:
-        run_unsure(table, crates, given)
-    print_unsure(crates)
+    if given.is_run:
+        run_unsure(table, crates, given.at_once)
+    unsure = print_unsure(crates)
     for crate in crates:
-        total = len(crate.bodies) + len(crate.faults)
-        seconds = f"{crate.seconds:.0f} seconds of processor time"
-        print(f"{crate.name}: {total} bodies, {len(crate.groups)} groups, {seconds}")
         crate.settle()
+        if crate.groups:
+            print(f"{crate.name}: {len(crate.groups)} groups, {crate.seconds:.0f} seconds of processor time")
     print(f"libraries: {len(tries.libraries)}, {tries.library_seconds:.0f} seconds of processor time")
-    print(f"left to --all: {sum(crate.left_out for crate in crates)}")
-    print(f"equivalent to the right ones: {sum(len(crate.equivalent) for crate in crates)}")
-    bad = len(faults) + sum(len(not_refused(crate)) for crate in crates)
-    total = sum(len(crate.bodies) + len(crate.faults) for crate in crates)
-    print(f"refuted: {sum(it.kind == REFUTED for crate in crates for it in crate.verdicts.values())}")
-    print(f"{total} wrong bodies, {bad} not refused, {len(unsure_in(crates))} can't tell")
+    rested, bad = sum(len(crate.rested) for crate in crates), sum(len(not_refused(crate)) for crate in crates)
+    total = rested + sum(len(crate.bodies) + len(crate.faults) for crate in crates)
+    if given.write:
+        write_table(given.root, crates, given.crates)
+    print(f"left to --all: {sum(len(crate.every) - len(crate.bodies) - len(crate.rested) for crate in crates)}")
+    print(f"{rested} verdicts are those of {ROWS}")
+    print(f"{total} wrong bodies, {bad} not refused, {unsure} can't tell")
+    print(f"{max(total - bad - unsure, 0)} passed, {bad} failed")
     return 1 if bad else 0
 
 
 def main() -> int:
-    for number in (signal.SIGTERM, signal.SIGHUP):
-        signal.signal(number, lambda *_: sys.exit(1))
+    for signals in (signal.SIGTERM, signal.SIGHUP):
+        signal.signal(signals, lambda *_: sys.exit(1))
     try:
         return work()
     except Unreadable as reason:

@@ -19,9 +19,13 @@ def checker() -> Path:
 
 
 def kit() -> str:
-    """The words that identify the kit: what `rt` says of itself, and the size and the date of the checker."""
+    """What `rt` says of itself: the name of the kit and the number of its logic."""
     said = subprocess.run(["rt", "version"], capture_output=True, text=True, check=False)
     if said.returncode or not said.stdout.strip():
         raise Unreadable("`rt version` doesn't say which kit this is")
-    status = checker().stat()
-    return f"{said.stdout.strip()} {status.st_size} {status.st_mtime_ns}"
+    return said.stdout.strip()
+
+
+def logic() -> str:
+    """The number of the kit's logic."""
+    return kit().split()[-1]

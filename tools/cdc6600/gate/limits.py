@@ -129,7 +129,7 @@ LIMITS = {
     ),
     "device_text/src/refused_line/texts.rt BEFORE": nothing("no text begins before the word and its blank end"),
     "log_text/src/following_log.rt LONGEST_ENTRY": has(
-        "crates/text_tests/src/following_log_tests.rt", "E40 W777777=777777777777777777777 I1"
+        "decks/pages/commands.md", "'E40 W777777=777777777777777777777 I1'"
     ),
     "job_deck/src/dumping.rt for number in": nothing("there are eight X registers"),
     "job_deck/src/listing.rt while parcel": nothing("a word has four parcels"),

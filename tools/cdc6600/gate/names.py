@@ -12,10 +12,6 @@
   pages. In the sources of tools and tests this holds for tools, tests and pages, since these sources name decks and
   crates that they make. NAME stands for any name, and so does the crate in `crates/crate/`; `*` has to match something.
 - Links: the target of a link in a page is there, with the section if one is named. Targets in the web aren't looked up.
-- Decisions: docs/DECISIONS.md is the one page of its name. After its title and at most three sentences comes the table
-  of the forms that differ from the intended ones. The first two cells of each row name something in backquotes that is
-  there: a path, or an item of a source in crates/ or tools/, such as `Log::new`, `ProgramFault::Stuck`, `Ended.sent` or
-  `Storage`; and nothing that isn't there.
 
 Run it after a change of names, or of where files are.
 """
@@ -28,7 +24,6 @@ from typing import Iterator
 
 from cdc6600.crates.crate import Crate, crates
 from cdc6600.crates.table import Table
-from cdc6600.gate.decisions import faults_of_decisions
 from cdc6600.shared.instructions import ROWS
 from cdc6600.shared.program import ROOT
 
@@ -212,7 +207,6 @@ def faults_of_links(page: str, lines: list[str]) -> Iterator[str]:
 
 def main() -> int:
     faults, pages = [*faults_of_names(), *faults_of_beginnings()], tracked("*.md")
-    faults += faults_of_decisions(pages, CRATES.values(), WORDS)
     for name in [path for path in tracked("crates", "tools", "tests", "bench") if path.endswith(KINDS)] + pages:
         lines = (ROOT / name).read_text(encoding="utf-8").split("\n")
         faults += faults_of_paths(name, lines)

@@ -1,4 +1,4 @@
-"""The checks by their names, in the parts of the gate. `tools/check NAME` runs one. Pytest runs a check with a file in
+"""The checks by their names, in the stages of the gate. `tools/check NAME` runs one. Pytest runs a check with a file in
 the folder of tests; any other check is a module of `checks` or of `gate`.
 """
 
@@ -6,8 +6,8 @@ from cdc6600.shared.program import ROOT
 
 TESTS = "tests"
 # They look at sources and pages alone, and take seconds.
-SMALL = ("definitions", "generated", "examples", "sizes", "limits", "words", "names", "layout", "readings",
-         "edits", "style", "where")
+SMALL = ("definitions", "generated", "examples", "sizes", "limits", "names", "layout", "readings", "edits", "style",
+         "where")
 # They try the tools that prove and that try wrong bodies, on small workspaces.
 BODIES = "wrong-bodies"
 BUILDING = ("spent-tokens", "build-program")
@@ -24,6 +24,7 @@ ASKING = (
     "browser", "driving", "habits", "archive", "tool-failures",
 )
 NAMES = (*SMALL, BODIES, *DECKS, *BUILDING)
+STAGES = {"small": SMALL, "decks": (BODIES, *DECKS, *BUILDING)}
 # The tests that run in several processes, and in how many at most.
 SHARED_OUT = dict.fromkeys(
     ("decks", "pages", "assembler", "sequential", "mutations", "failures", "trace", "many-jobs", "scheduling",

@@ -1,7 +1,9 @@
 """Drives a machine on a whole terminal."""
 
+import codecs
 import curses
 import os
+import select
 import sys
 from typing import Iterable
 
@@ -16,8 +18,11 @@ from .phrases import completed
 LINES = 24
 KEYS = "Up, Down, Enter: make one. Left: undo. Right: next. Tab completes. ?: help"
 TYPING = "A line is being typed: Enter carries it out, and Escape clears it."
-# How often a key is read anew where none came.
+# After this many inputs without a key the terminal counts as unreadable.
 TRIES = 100
+LAST_BYTE = 255
+# The seconds between two looks at the terminal's size.
+PAUSE = 0.5
 # The lines of the values of all registers.
 REGISTER_LINES = 8
 # By how many lines the past events are scrolled at once.
@@ -29,6 +34,23 @@ CLOSED, REDRAW, COMPLETE = "\x04", "\x0c", "\t"
 CLEAR, CLEAR_WORD = ("\x1b", "\x15"), "\x17"
 # The keys that bring back a line typed before, and one typed after it.
 EARLIER, LATER = "\x10", "\x0e"
+
+
+def size() -> tuple[int, int]:
+    """The lines and columns of the terminal."""
+    width, height = os.get_terminal_size(sys.stdout.fileno())
+    return height, width
+
+
+def is_resized() -> bool:
+    """Whether the terminal's size differs from the window's. Curses misses a resize signal that arrives just before it
+    waits for a key."""
+    return curses.is_term_resized(*size())
+
+
+def is_readable(seconds: float) -> bool:
+    """Waits for input, at most this many seconds; whether there is any."""
+    return bool(select.select([sys.stdin], [], [], seconds)[0])
 
 
 class Screen:
@@ -45,6 +67,7 @@ class Screen:
     def run(self) -> None:
         """Goes on up to `quit`."""
         curses.set_escdelay(25)
+        self.window.nodelay(True)
         while True:
             self.draw()
             try:
@@ -53,12 +76,19 @@ class Screen:
                 return
 
     def key(self) -> str | int:
-        """The next key. What is no letter in the terminal's code is passed over."""
-        for _ in range(TRIES):
-            try:
-                return self.window.get_wch()
-            except curses.error:
-                pass
+        """Returns the next key, or KEY_RESIZE after a change of the terminal's size. Skips bytes that are no letter in
+        the terminal's encoding."""
+        decoder, tries = codecs.getincrementaldecoder(self.window.encoding)("ignore"), TRIES
+        while tries:
+            key = self.window.getch()
+            if key > LAST_BYTE:
+                return key
+            letter = decoder.decode(bytes([key])) if key >= 0 else ""
+            if letter:
+                return letter
+            if key < 0 and is_resized():
+                return curses.KEY_RESIZE
+            tries -= key < 0 and is_readable(PAUSE)
         raise Fault("the terminal", "no key can be read")
 
     def press(self, key: str | int) -> None:
@@ -124,11 +154,9 @@ class Screen:
         self.offers, self.chosen = self.operation.offers(), 0
 
     def draw(self) -> None:
-        """Draws everything, or that the terminal is too small. The signal that tells of another size can come just
-        before a key is awaited, and then curses doesn't know of it yet."""
-        width, height = os.get_terminal_size(sys.stdout.fileno())
-        if curses.is_term_resized(height, width):
-            curses.resizeterm(height, width)
+        """Draws everything, or that the terminal is too small."""
+        if is_resized():
+            curses.resizeterm(*size())
         self.window.erase()
         height, width = self.window.getmaxyx()
         if height < LINES or width < WIDTH:

@@ -3,8 +3,8 @@ bodies.
 
 Those of the program are the stored sessions and decks, the rows of the pages of refusals and requests, command lines
 that are refused, and drawn sessions. Runs by threads come first for a crate that only they use, and last for the
-others, since they take longest. Decks of which such a run may have several logs are left out there. Those of a crate of
-tests are its tests.
+others, since they take longest. Where such a run may have several logs, it may have another one of them than the right
+one. Those of a crate of tests are its tests.
 """
 
 import random
@@ -13,12 +13,12 @@ import resource
 import signal
 import subprocess
 import tempfile
-from dataclasses import dataclass
+from dataclasses import dataclass, replace
 from pathlib import Path
 from typing import IO, Iterable, Iterator
 
 from cdc6600.checks.drawn_sessions import drawn_session
-from cdc6600.shared.decks import PAGES, deck, decks, rows_of, sessions
+from cdc6600.shared.decks import PAGES, deck, decks, log_of, rows_of, sessions
 from cdc6600.shared.program import Program, followed
 
 from .choosing import STARTING
@@ -70,17 +70,22 @@ def shown(line: bytes) -> str:
 
 @dataclass(frozen=True)
 class Case:
-    """A command of an executable by its words, its input, and a name. A test has no input, and fails or not."""
+    """A command of an executable by its words, its input, and a name. A test has no input, and fails or not. If the log
+    of a run depends on its threads, `logs` has the logs that it may have."""
 
     name: str
     words: tuple[str, ...]
     text: bytes = b""
     is_test: bool = False
+    logs: tuple[str, ...] = ()
 
     def differs(self, came: Ran, right: Ran) -> str | None:
         """Where a run differs from the right one, in words; none where it doesn't."""
         if self.is_test and came.status:
             return "it fails" if not right.status else None
+        log = log_of(came.printed)
+        if log in self.logs and log != log_of(right.printed):
+            came = replace(came, printed=right.printed)
         return came.differs(right)
 
     def run(self, file: Path) -> Ran:
@@ -134,9 +139,11 @@ def in_parts(log: str) -> str:
 def requests(*words: str) -> Iterator[Case]:
     """The cases of the page of requests for exchanges, by this command."""
     packages = deck("four-packages").text
-    for at, (lines, budget, *_) in enumerate(rows_of(PAGES / "requests.md"), 1):
+    for at, (lines, budget, _, logs) in enumerate(rows_of(PAGES / "requests.md"), 1):
         text = packages.replace(b"\nend\n", f"\n{lines}\nend\n".replace("; ", "\n").encode())
-        yield Case(f"row {at} of {PAGES.name}/requests.md by {' '.join(words)}", (*words, "--budget", budget), text)
+        name = f"row {at} of {PAGES.name}/requests.md by {' '.join(words)}"
+        raced = tuple(logs.split(", ")) if "--sequential" not in words else ()
+        yield Case(name, (*words, "--budget", budget), text, logs=raced)
 
 
 def rows() -> Iterator[Case]:
@@ -157,8 +164,9 @@ def refused() -> Iterator[Case]:
 
 
 def threaded() -> list[Case]:
-    found = [it for it in decks() if it.name not in LONG and not it.logs]
-    return [*(Case(f"{it} by run", ("run", *it.arguments), it.text) for it in found), *requests("run")]
+    found = [it for it in decks() if it.name not in LONG]
+    cases = [Case(f"{it} by run", ("run", *it.arguments), it.text, logs=tuple(it.logs)) for it in found]
+    return [*cases, *requests("run")]
 
 
 def drawn(program: Path) -> Iterator[Case]:

@@ -48,9 +48,10 @@ class Refuting:
         self.choice = Choice(table, room)
 
     def run(self) -> None:
-        """Tries the program first, and then the tests of each crate above a body that is left."""
-        program = self.choice.built(PROGRAM)
-        self.try_all(program, of_program(program.right()))
+        """Tries the program first, if there is one, and then the tests of each crate above an unrefuted body."""
+        if PROGRAM in self.table.lines:
+            program = self.choice.built(PROGRAM)
+            self.try_all(program, of_program(program.right()))
         for name in (name for name in self.table.lines if has_tests(self.table.folder(name))):
             above = {*self.table.below(name), name}
             if any(crate.name in above for crate, _ in left_in(self.crates)):
@@ -72,7 +73,7 @@ class Refuting:
         with ThreadPoolExecutor(self.at_once) as pool:
             for (crate, body), found in zip(left, pool.map(difference, left)):
                 if found:
-                    crate.verdicts[body.name] = Verdict(REFUTED, found)
+                    crate.tell(body, Verdict(REFUTED, found))
                     print(f"{crate.name}/{body.name}: refuted by {found}", flush=True)
 
 

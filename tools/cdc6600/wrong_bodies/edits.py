@@ -5,12 +5,12 @@ from pathlib import Path
 from typing import Iterable, NamedTuple
 
 from cdc6600.crates.crate import EDITS
-from cdc6600.crates.source import Item, Sources, items_of
+from cdc6600.crates.source import Item, Sources, items_of, names_in
 from cdc6600.crates.table import Unreadable
 
-EQUIVALENT, UNSURE, LET_THROUGH = "equivalent", "unsure", "let through"
+UNSURE, LET_THROUGH = "unsure", "let through"
 # How the lines begin that have a reason.
-NOTES = (f"{EQUIVALENT}: ", f"{UNSURE}: ", f"{LET_THROUGH}: ")
+NOTES = (f"{UNSURE}: ", f"{LET_THROUGH}: ")
 
 
 class Region(NamedTuple):
@@ -30,15 +30,15 @@ class Body:
     folder: str
     text: str
     regions: list[Region] = field(default_factory=list)
-    # The functions that it changes, or that read a constant that it changes.
+    # The functions that it changes, or whose body or contract names a constant that it changes.
     touched: list[Item] = field(default_factory=list)
     is_alone: bool = False
     notes: dict[str, str] = field(default_factory=dict)  # its reasons, by the words of NOTES
 
 
 def notes_of(text: str) -> dict[str, str]:
-    """The reasons that an edit gives, by their words: why its body does what the right one does, why nobody can tell
-    whether the contract refuses it, or why the contract lets it through."""
+    """The reasons that an edit gives, by their words: why nobody can tell whether the contract refuses its body, or why
+    the contract lets it through."""
     pairs = (line.split(": ", 1) for line in text.split("\n") if line.startswith(NOTES))
     return {word: reason.strip() for word, reason in pairs}
 
@@ -97,9 +97,22 @@ def touch(body: Body, path: str, text: str, at: int, new: str, source: Sources) 
         found = [item for item in source.functions() if item.path == path and item.key() == function.key()]
         found = found[same.index(function.first) :][:1] if len(found) == len(same) else found
     else:
-        found = [item for item in source.functions() if inside is not None and inside.name in item.names()]
+        found = [item for item in source.functions() if inside and named_by(item) & made_of(inside.name, source)]
     body.touched += [item for item in found if item not in body.touched]
     return not function or first >= function.body_start or "fn " in new
+
+
+def made_of(name: str, source: Sources) -> set[str]:
+    """A constant, and the constants that are made of it."""
+    constants, found = [item for item in source.items if item.kind == "constant"], {name}
+    while more := {item.name for item in constants if item.names() & found} - found:
+        found |= more
+    return found
+
+
+def named_by(item: Item) -> set[str]:
+    """The names in a function's body and in its contract, which may state the value of a constant."""
+    return item.names() | names_in(item.declaration)
 
 
 def region_of(path: str, right: str, wrong: str) -> Region:

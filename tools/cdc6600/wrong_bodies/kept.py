@@ -1,61 +1,107 @@
-"""Keeps what was found of bodies, by a sum of all that the check read, so that a later run tries only what is new.
+"""Keeps the verdicts on wrong bodies. A run tries a body again only after a change that may alter its verdict.
 
-A body that isn't refused is tried again each time, and nothing is kept of it. What one check found is kept apart: it
-counts only where no second check is asked for, and there a verdict of two checks comes first.
+A verdict is valid for a checksum of its inputs: the edit, the sources, definitions and proofs of the crate, and the
+contracts and definitions of the crates below. Comments and tests are no inputs. The table
+docs/proof/all-wrong-bodies.txt has verdicts by two checks and by runs, each with the number of the kit's logic. Each
+run also keeps its verdicts in the user's cache folder, so that an interrupted run can continue. Verdicts by one check
+are in other files there: they count only in runs by one check.
 """
 
 import hashlib
 import json
 import os
+import re
 from contextlib import suppress
+from dataclasses import dataclass
+from functools import cache
 from pathlib import Path
+from typing import Iterable, Iterator, Mapping
 
-from cdc6600.crates.crate import EDITS
-from cdc6600.crates.table import Table
-from cdc6600.shared.program import ROOT
+from cdc6600.crates.source import items_of
+from cdc6600.crates.table import Table, Unreadable
 
 from .edits import Body
 from .verdicts import Verdict
 from .workspaces import PARTS
 
-# The runner's files that verdicts of the prover depend on, from the package's folder on.
-RUNNER = ("wrong_bodies/*.py", "building/host.py", "building/processes.py", "crates/*.py")
+ROWS = "docs/proof/all-wrong-bodies.txt"
+HEAD = """\
+# Verdicts on wrong bodies, written by `tools/wrong-bodies --write`: the body, the number of the kit's logic, the
+# checksum of the verdict's inputs, and the verdict with the goal or the case that decided it.
+"""
+# Increased when bodies are judged in another way, so that no older verdict is valid.
+RULES = 1
+COMMENT = re.compile(r"\s*(//|--|$)")
+ROW = re.compile(r"(\S+) (\w+) (\w+) ([^:]+): (.*)")
+SUM = re.compile(r"sum (\w+), (.*)")
 
 
-def own_text() -> bytes:
-    """The runner's own text: what another runner found says nothing of this one."""
-    files = [file for pattern in RUNNER for file in sorted((ROOT / "tools/cdc6600").glob(pattern))]
-    return b"".join(file.read_bytes() for file in files)
+def sum_of(*texts: str) -> str:
+    return hashlib.sha256("\0".join(texts).encode()).hexdigest()[:24]
 
 
-def sum_of(table: Table, crate: str, identity: str) -> str:
-    """A sum of all that a check of the crate reads, and of what judges it."""
-    found = hashlib.sha256()
-
-    def add(words: str, data: bytes) -> None:
-        found.update(f"{words} {len(data)}\n".encode())
-        found.update(data)
-
-    add("kit", identity.encode())
-    add("runner", own_text())
-    handles = table.root / "HANDLES"
-    add("HANDLES", handles.read_bytes() if handles.is_file() else b"")
-    for name in [*table.below(crate), crate]:
-        add("line", table.lines[name].encode())
-        files = (file for part in PARTS for file in sorted((table.folder(name) / part).rglob("*")) if file.is_file())
-        for file in files:
-            add(f"{name}/{file.relative_to(table.folder(name))}", file.read_bytes())
-    return found.hexdigest()
+def without_bodies(path: str, text: str) -> str:
+    """A source without the bodies of its functions."""
+    lines = text.split("\n")
+    for item in reversed(items_of(path, text)):
+        if item.kind == "function" and item.size:
+            del lines[item.body_start + 1 : item.last]
+    return "\n".join(lines)
 
 
-def own_sum(table: Table, crate: str) -> str:
-    """A sum of a crate's own text and edits."""
-    found = hashlib.sha256()
-    for file in (file for part in (*PARTS, *EDITS) for file in sorted((table.folder(crate) / part).rglob("*"))):
-        if file.is_file():
-            found.update(f"{file.relative_to(table.folder(crate))} {file.stat().st_size}\n".encode())
-            found.update(file.read_bytes())
-    return found.hexdigest()
+def text_of(folder: Path, parts: Iterable[str], has_bodies: bool) -> Iterator[str]:
+    """The paths and texts of a crate in these folders, without comments and tests."""
+    for file in (file for part in parts for file in sorted((folder / part).rglob("*")) if file.is_file()):
+        if "test" not in file.name:
+            path, text = str(file.relative_to(folder)), file.read_text(encoding="utf-8")
+            text = text if has_bodies or file.suffix != ".rt" else without_bodies(path, text)
+            yield from (path, *(line for line in text.split("\n") if not COMMENT.match(line)))
+
+
+@cache
+def sum_of_contracts(folder: Path) -> str:
+    """A sum of the contracts and definitions of a crate."""
+    return sum_of(*text_of(folder, ("src", "specs"), False))
+
+
+def sum_of_crate(table: Table, crate: str) -> str:
+    """A checksum of the inputs that the verdicts on a crate's bodies share: all but the edits."""
+    below = table.below(crate)
+    listed = [table.lines[name] for name in [*below, crate]]
+    contracts = [sum_of_contracts(table.folder(name)) for name in below]
+    return sum_of(str(RULES), *listed, *contracts, *text_of(table.folder(crate), PARTS, True))
+
+
+@dataclass(frozen=True)
+class Row:
+    """A verdict on a body, with the number of the kit's logic and the checksum of its inputs."""
+
+    body: str
+    logic: str
+    total: str
+    verdict: Verdict
+
+    def __str__(self) -> str:
+        return f"{self.body} {self.logic} {self.total} {self.verdict.kind}: {self.verdict.words}\n"
+
+
+def read_rows(root: Path) -> dict[str, Row]:
+    """The rows of the table by their bodies; none if there is no table.
+
+    Raises Unreadable if a line is no row, or the last one isn't the sum of the others and of the call."""
+    file = root / ROWS
+    lines = file.read_text(encoding="utf-8").splitlines() if file.is_file() else []
+    *lines, last = [line for line in lines if not line.startswith("#")] or [""]
+    found, ended = [ROW.fullmatch(line) for line in lines], SUM.fullmatch(last)
+    if last and not (ended and ended[1] == sum_of(*lines, ended[2]) and all(found)):
+        raise Unreadable(f"{ROWS}: it isn't as `tools/wrong-bodies --write` has written it")
+    return {it[1]: Row(it[1], it[2], it[3], Verdict(it[4], it[5])) for it in found if it}
+
+
+def write_rows(root: Path, rows: Iterable[Row], call: str) -> None:
+    """Writes the table, with the command that found its rows."""
+    lines = sorted(str(row).rstrip("\n") for row in rows)
+    write(root / ROWS, HEAD + "".join(f"{line}\n" for line in [*lines, f"sum {sum_of(*lines, call)}, {call}"]))
 
 
 def write(file: Path, text: str) -> None:
@@ -68,39 +114,46 @@ def write(file: Path, text: str) -> None:
 
 
 class Kept:
-    """What was found of the bodies of one crate as it is: for the sum of an edit, its verdict and the words for it. It
-    also knows the sum of the crate's own text when its bodies were last tried."""
+    """The known verdicts on a crate's bodies: rows of the table, and verdicts of this user's earlier runs."""
 
-    def __init__(self, crate: str, total: str, anew: bool, is_once: bool = False) -> None:
+    def __init__(self, table: Table, crate: str, logic: str, rows: Mapping[str, Row], is_anew: bool,
+                 is_once: bool) -> None:
         folder = Path(os.environ.get("XDG_CACHE_HOME") or Path.home() / ".cache") / "dohikewa" / "wrong-bodies"
-        files = [folder / f"{crate}-{total[:32]}{ending}.json" for ending in ("-once", "")[not is_once :]]
-        self.file, self.text = files[0], folder / f"{crate}.text"
-        self.found: dict[str, tuple[str, str]] = {}
-        for file in files if not anew else ():
+        self.crate, self.logic, self.rows, self.of_crate = crate, logic, rows, sum_of_crate(table, crate)
+        files = [folder / f"{crate}{ending}.json" for ending in ("-once", "")[not is_once :]]
+        self.file, self.text, self.found = files[0], folder / f"{crate}.text", dict[str, tuple[str, str]]()
+        for file in files if not is_anew else ():
             with suppress(ValueError, OSError):
                 self.found |= dict(json.loads(file.read_text(encoding="utf-8")))
 
-    @staticmethod
-    def key(body: Body) -> str:
-        return hashlib.sha256(body.text.encode()).hexdigest()
+    def row(self, body: Body, verdict: Verdict) -> Row:
+        return Row(f"{self.crate}/{body.name}", self.logic, sum_of(self.of_crate, body.text), verdict)
 
-    def verdict(self, body: Body) -> Verdict | None:
-        found = self.found.get(self.key(body))
+    def by_row(self, body: Body) -> Verdict | None:
+        """The verdict of the table, if it is still valid."""
+        found = self.rows.get(f"{self.crate}/{body.name}")
+        return found.verdict if found and found == self.row(body, found.verdict) else None
+
+    def by_run(self, body: Body) -> Verdict | None:
+        """The verdict of an earlier run of this user."""
+        found = self.found.get(str(self.row(body, Verdict("", ""))))
         return Verdict(*found) if found else None
 
     def keep(self, body: Body, verdict: Verdict) -> None:
-        """Writes a verdict at once, so that a run that is cut off has not tried for nothing. If there is no place to
-        write to, nothing is kept, and a later run tries all again."""
-        self.found[self.key(body)] = verdict.kind, verdict.words
+        """Writes a verdict at once. If the file can't be written, a later run tries the body again."""
+        self.found[str(self.row(body, Verdict("", "")))] = verdict.kind, verdict.words
         write(self.file, json.dumps(self.found, indent=0))
 
-    def has_changed(self, own: str) -> bool:
-        """Whether the crate's own text is another one than when its bodies were last tried. It isn't if nothing was
-        kept."""
+    def total(self, bodies: Iterable[Body]) -> str:
+        """A sum of the crate and of its edits."""
+        return sum_of(self.of_crate, *(body.text for body in bodies))
+
+    def has_changed(self, bodies: Iterable[Body]) -> bool:
+        """Whether the crate or its edits have changed since the bodies were last tried; no if nothing was kept."""
         with suppress(OSError):
-            return self.text.read_text(encoding="utf-8") != own
+            return self.text.read_text(encoding="utf-8") != self.total(bodies)
         return False
 
-    def settle(self, own: str) -> None:
-        """Notes that the bodies were tried of this text."""
-        write(self.text, own)
+    def settle(self, bodies: Iterable[Body]) -> None:
+        """Records that the bodies of this text were tried."""
+        write(self.text, self.total(bodies))

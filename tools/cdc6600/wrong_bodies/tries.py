@@ -11,7 +11,7 @@ import tempfile
 import threading
 from argparse import Namespace
 from concurrent.futures import FIRST_COMPLETED, Future, ThreadPoolExecutor, wait
-from dataclasses import dataclass, field, replace
+from dataclasses import dataclass, field
 from functools import partial
 from pathlib import Path
 from typing import Callable, Container, Mapping, Sequence
@@ -25,13 +25,13 @@ from cdc6600.crates.table import Table, Unreadable
 
 from .assumed import assumed
 from .copies import Copy, beside, can_stand_beside, copied, written_folders
-from .edits import EQUIVALENT, LET_THROUGH, Body, merged, read_bodies
+from .edits import LET_THROUGH, Body, merged, read_bodies
 from .groups import grouped
-from .kept import Kept, own_sum, sum_of
+from .kept import Kept
 from .libraries import left_by_rt_ci
 from .opening import Opening
 from .second import after_one, again, copies_again, in_places_again, settled
-from .verdicts import CALLS, NOT_REFUSED, Outcome, Verdict, outcome_of
+from .verdicts import CALLS, CANT_TELL, NOT_REFUSED, Outcome, Verdict, outcome_of
 from .workspaces import Workspace
 
 # The seconds that a function takes to prove in a crate of which it isn't known.
@@ -64,17 +64,18 @@ class Group:
 
 @dataclass
 class Crate:
-    """A crate whose bodies are tried: what is left to try, and what came of it. Its groups may run side by side."""
+    """A crate whose bodies are tried: what is left to try, and what came of it. Its groups may run side by side.
+
+    `rested` has the bodies with verdicts in the table, `bodies` the other bodies of this run, and `every` all bodies of
+    the crate."""
 
     name: str
     source: Sources
-    bodies: list[Body]
     kept: Kept
     opening: Opening
-    own: str  # the sum of its own text
-    left_out: int  # how many bodies of the night aren't tried
-    equivalent: list[Body]  # the bodies that do what the right ones do
-    let_through: list[Body]  # the bodies that the contract lets through, which a run has to refute
+    every: list[Body] = field(default_factory=list)
+    bodies: list[Body] = field(default_factory=list)
+    rested: list[Body] = field(default_factory=list)
     groups: list[Group] = field(default_factory=list)
     verdicts: dict[str, Verdict] = field(default_factory=dict)  # by the name of the body
     faults: list[str] = field(default_factory=list)
@@ -90,35 +91,36 @@ class Crate:
                 self.kept.keep(body, verdict)
 
     def settle(self) -> None:
-        """Notes that these bodies were tried of this text, if each was."""
-        if len(self.verdicts) == len(self.bodies):
-            self.kept.settle(self.own)
+        """Records that the bodies of this text were tried, if each was."""
+        if len(self.verdicts) == len(self.bodies) + len(self.rested):
+            self.kept.settle(self.every)
 
     def spent(self, seconds: float) -> None:
         with self.lock:
             self.seconds += seconds
 
 
-def read_crate(table: Table, name: str, identity: str, given: Namespace) -> Crate:
-    """Reads a crate's bodies, and takes the verdicts that were kept of the very same text. Those of the night are left
-    out, unless all are asked for or the crate has changed since its bodies were last tried. `rt ci` tries those in
-    `must-fail`, so they are of the night too."""
-    source, own = Sources.read(table.folder(name)), own_sum(table, name)
-    every, faults = read_bodies(table.folder(name), source)
-    equivalent, let_through = ([body for body in every if word in body.notes] for word in (EQUIVALENT, LET_THROUGH))
-    found = [body for body in every if body not in equivalent + let_through]
-    kept = Kept(name, sum_of(table, name, identity), given.anew, given.once)
-    are_all = given.all or bool(given.crates) or kept.has_changed(own)
-    bodies = [body for body in found if are_all or body.folder not in OF_THE_NIGHT]
-    left_out = len(found) - len(bodies)
-    opening = Opening(table, name)
-    crate = Crate(name, source, bodies, kept, opening, own, left_out, equivalent, let_through, faults=faults)
-    for body in bodies:
-        verdict = crate.kept.verdict(body)
-        if verdict:
-            crate.verdicts[body.name] = replace(verdict, words=f"{verdict.words} (kept)")
+def read_crate(table: Table, name: str, kept: Kept, given: Namespace) -> Crate:
+    """Reads a crate's bodies and their known verdicts. Bodies of the night and of `must-fail` are left out, unless all
+    bodies are asked for or the crate has changed since they were last tried. Bodies that the contract lets through are
+    left out if no body is run."""
+    source = Sources.read(table.folder(name))
+    crate = Crate(name, source, kept, Opening(table, name))
+    crate.every, crate.faults = read_bodies(table.folder(name), source)
+    are_all = given.all or bool(given.crates) or kept.has_changed(crate.every)
+    for body in crate.every:
+        known = kept.by_row(body)
+        is_left_out = body.folder in OF_THE_NIGHT and not are_all or LET_THROUGH in body.notes and not given.is_run
+        if not known and is_left_out:
+            continue
+        (crate.rested if known else crate.bodies).append(body)
+        known = known or kept.by_run(body)
+        if not known and LET_THROUGH in body.notes:
+            known = Verdict(CANT_TELL, "its contract lets it through")
+        if known:
+            crate.verdicts[body.name] = known
     crate.pace = measured(table.root).get(name, 0) / max(len(source.functions()), 1) or PACE
-    left = [body for body in bodies if body.name not in crate.verdicts]
+    left = [body for body in crate.bodies if body.name not in crate.verdicts]
     crate.groups = groups_of(left, source, table.folder(name), crate.pace)
     return crate
 
