@@ -1,6 +1,6 @@
 """Tries the wrong bodies of crates: gets the libraries that they stand on, and checks group after group.
 
-Each group is checked once, and the bodies that this check refuses once more (second.py), unless one check is to do.
+Each group is checked once, and the bodies that this check refuses once more (second.py).
 
 Libraries that `rt ci` has just proved are taken over, and others are built. The groups of a crate run side by side,
 each in a workspace of its own. What a check doesn't change it assumes (assumed.py), so no group waits for another's
@@ -19,7 +19,6 @@ from typing import Callable, Container, Mapping, Sequence
 from cdc6600.building import host
 from cdc6600.building.forecast import measured
 from cdc6600.building.processes import Ran, stop_all
-from cdc6600.crates.crate import OF_THE_NIGHT
 from cdc6600.crates.source import Item, Sources, module_of
 from cdc6600.crates.table import Table, Unreadable
 
@@ -30,7 +29,7 @@ from .groups import grouped
 from .kept import Kept
 from .libraries import left_by_rt_ci
 from .opening import Opening
-from .second import after_one, again, copies_again, in_places_again, settled
+from .second import again, copies_again, in_places_again, settled
 from .verdicts import CALLS, CANT_TELL, NOT_REFUSED, Outcome, Verdict, outcome_of
 from .workspaces import Workspace
 
@@ -66,14 +65,12 @@ class Group:
 class Crate:
     """A crate whose bodies are tried: what is left to try, and what came of it. Its groups may run side by side.
 
-    `rested` has the bodies with verdicts in the table, `bodies` the other bodies of this run, and `every` all bodies of
-    the crate."""
+    `rested` has the bodies with verdicts in the table, and `bodies` the other ones."""
 
     name: str
     source: Sources
     kept: Kept
     opening: Opening
-    every: list[Body] = field(default_factory=list)
     bodies: list[Body] = field(default_factory=list)
     rested: list[Body] = field(default_factory=list)
     groups: list[Group] = field(default_factory=list)
@@ -90,28 +87,20 @@ class Crate:
             if verdict.kind != NOT_REFUSED:
                 self.kept.keep(body, verdict)
 
-    def settle(self) -> None:
-        """Records that the bodies of this text were tried, if each was."""
-        if len(self.verdicts) == len(self.bodies) + len(self.rested):
-            self.kept.settle(self.every)
-
     def spent(self, seconds: float) -> None:
         with self.lock:
             self.seconds += seconds
 
 
 def read_crate(table: Table, name: str, kept: Kept, given: Namespace) -> Crate:
-    """Reads a crate's bodies and their known verdicts. Bodies of the night and of `must-fail` are left out, unless all
-    bodies are asked for or the crate has changed since they were last tried. Bodies that the contract lets through are
-    left out if no body is run."""
+    """Reads a crate's bodies and their known verdicts. Bodies that the contract lets through are left out if no body is
+    run."""
     source = Sources.read(table.folder(name))
     crate = Crate(name, source, kept, Opening(table, name))
-    crate.every, crate.faults = read_bodies(table.folder(name), source)
-    are_all = given.all or bool(given.crates) or kept.has_changed(crate.every)
-    for body in crate.every:
+    bodies, crate.faults = read_bodies(table.folder(name), source)
+    for body in bodies:
         known = kept.by_row(body)
-        is_left_out = body.folder in OF_THE_NIGHT and not are_all or LET_THROUGH in body.notes and not given.is_run
-        if not known and is_left_out:
+        if not known and LET_THROUGH in body.notes and given.prover:
             continue
         (crate.rested if known else crate.bodies).append(body)
         known = known or kept.by_run(body)
@@ -154,9 +143,8 @@ def path_of(item: Item, source: Sources) -> str | None:
 class Tries:
     """The run: the libraries that are built, and the tasks that are left, each with the names of those it waits for."""
 
-    def __init__(self, table: Table, crates: Sequence[Crate], room: str, at_once: int, is_after_rt_ci: bool,
-                 is_once: bool = False) -> None:
-        self.table, self.room, self.at_once, self.is_once = table, Path(room), at_once, is_once
+    def __init__(self, table: Table, crates: Sequence[Crate], room: str, at_once: int, is_after_rt_ci: bool) -> None:
+        self.table, self.room, self.at_once = table, Path(room), at_once
         self.libraries, self.broken, self.library_seconds = dict[str, Workspace](), dict[str, str](), 0.0
         self.tasks: dict[Task, tuple[list[Task], Callable[[], None]]] = {}
         tried = [crate for crate in crates if crate.groups]
@@ -224,10 +212,6 @@ class Tries:
         verdicts = {body.name: found[body.name].verdict for body in group.bodies}
         suffixes = {copy.body.name: copy.suffix for copy in group.copies}
         refused = [body for body in group.bodies if verdicts[body.name].refused]
-        if self.is_once:
-            folder = self.table.folder(crate.name)
-            verdicts |= {body.name: after_one(body, found[body.name], folder) for body in refused}
-            refused = []
         left = [body for body in refused if body.name not in apart]
         verdicts |= self.look_again(crate, left, found, suffixes, workspace)
         for body in (body for body in refused if body.name in apart):
