@@ -138,22 +138,18 @@ const ROWS: [(usize, bool, Asked, &str); 21] = [
     ),
 ];
 
-/// The machine of the deck.
-fn first(alloc: Global) -> Result<Machine, Refusal> {
+/// The machine after the first events.
+fn after(alloc: Global, events: &[Event], is_accepted: bool) -> Result<Machine, Refusal> {
     let mut text = DECK.as_bytes();
     let deck = read_deck(alloc, &mut text)?;
-    booted(alloc, &deck, 100)
-}
-
-/// Makes the first events.
-fn make(machine: &mut Machine, events: &[Event], is_accepted: bool) -> Result<(), Refusal> {
+    let mut machine = booted(alloc, &deck, 100)?;
     for event in events {
         let _ = machine.apply(*event)?;
     }
     if is_accepted {
         let _ = machine.apply(Event::Accept(0))?;
     }
-    Ok(())
+    Ok(machine)
 }
 
 /// Writes what is asked of a machine.
@@ -178,12 +174,8 @@ fn is_told(alloc: Global, machine: &Machine, asked: &Asked, wanted: &str) -> boo
 #[test]
 fn contents_and_judgements(rt: HostRuntime) -> Result<(), Fail> {
     for (made, is_accepted, asked, wanted) in &ROWS {
-        let mut machine = first(rt.alloc())?;
-        let is_made = make(&mut machine, &ENTERED[..*made], *is_accepted).is_ok();
-        assert!(rt;
-            is_made && is_told(rt.alloc(), &machine, asked, wanted),
-            "{wanted}"
-        );
+        let machine = after(rt.alloc(), &ENTERED[..*made], *is_accepted)?;
+        assert!(rt; is_told(rt.alloc(), &machine, asked, wanted), "{wanted}");
     }
     Ok(())
 }

@@ -65,6 +65,14 @@ fn replayed(ended: Result<Option<State>, Refusal>) -> Result<(), Refusal> {
     }
 }
 
+/// What a run answers, without its state.
+fn ran(ended: Result<State, Refusal>) -> Result<(), Refusal> {
+    match ended {
+        Ok(_) => Ok(()),
+        Err(refusal) => Err(refusal),
+    }
+}
+
 /// Does a job from any reader to any writer.
 fn done<R: Read, W: Write>(
     alloc: Global,
@@ -76,10 +84,7 @@ fn done<R: Read, W: Write>(
         Job::List => list(alloc, reader, writer),
         Job::Replay => replayed(replay(alloc, reader, writer, "E40 I3")),
         Job::ReplayFollowing => replayed(replay_following(alloc, reader, writer)),
-        Job::Run => match run_sequentially(alloc, reader, writer, 3) {
-            Ok(_) => Ok(()),
-            Err(refusal) => Err(refusal),
-        },
+        Job::Run => ran(run_sequentially(alloc, reader, writer, 3)),
         Job::Events => events(alloc, reader, writer, 1),
     }
 }
