@@ -67,10 +67,8 @@ fn replayed(ended: Result<Option<State>, Refusal>) -> Result<(), Refusal> {
 
 /// What a run answers, without its state.
 fn ran(ended: Result<State, Refusal>) -> Result<(), Refusal> {
-    match ended {
-        Ok(_) => Ok(()),
-        Err(refusal) => Err(refusal),
-    }
+    let _ = ended?;
+    Ok(())
 }
 
 /// Does a job from any reader to any writer.
