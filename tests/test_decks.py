@@ -5,6 +5,7 @@ status with the files beside it, which decks/README.md names.
   depends on how these fall, it is one of the deck's logs, and what is printed is what its replay prints.
 - The rows of the pages refusals.md and requests.md are tried, those of refusals at a terminal too.
 - The timeline of each session and the picture docs/use/conflicts.svg are drawn and compared.
+- Each drain of which decks/README.md says how many events it makes is made by the library.
 - The worked schedules of crates/schedule_tests are made as sessions. They are constants in Rust, whose numbers, texts,
   lists and pairs are written as in Python, so they are read as Python.
 
@@ -20,7 +21,10 @@ from typing import Any, Iterator, Sequence
 import pytest
 from running import Ended, Runner, called, text_of, told_at_terminal
 
-from cdc6600.shared.decks import PAGES, Deck, Session, deck, decks, log_of, rows_of, sessions
+from cdc6600.asking.library import declarations, library
+from cdc6600.shared.decks import (
+    PAGES, Deck, Session, deck, decks, drained_by_sessions, log_of, rows_of, session, sessions,
+)
 from cdc6600.shared.program import ROOT
 
 THREADED, SEQUENTIAL = RUNS = (("run",), ("run", "--sequential"))
@@ -73,6 +77,18 @@ def test_session(program: Runner, it: Session) -> None:
     assert it.answers is not None and it.timeline is not None, "there is no file with answers or a timeline"
     assert program("events", given=it.text) == Ended.of(0, it.answers)
     assert called("tools/timeline", it.file, it.file.with_suffix(".answers")) == Ended.of(0, it.timeline)
+
+
+@pytest.mark.usefixtures("program")
+@pytest.mark.parametrize("name, events", drained_by_sessions().items())
+def test_drain(name: str, events: int) -> None:
+    it = session(name)
+    *made, last = it.schedule
+    with declarations().Machine(library()) as machine:
+        machine.boot(it.text)
+        for event in made:
+            machine.event(event.encode())
+        assert (last, machine.is_drained(), machine.drain()) == ("drain", False, events)
 
 
 def test_picture() -> None:

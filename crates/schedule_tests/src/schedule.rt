@@ -1,6 +1,6 @@
-//! The data of a worked schedule. The schedules are in register_schedules.rt, reference_schedules.rt,
-//! branch_schedules.rt and exchange_schedules.rt, by subject. `schedule_tests` makes each schedule in every way of
-//! making events, and `tools/check decks` gives them to the program.
+//! The data of a worked schedule. The schedules are in register_schedules.rt and reference_schedules.rt.
+//! `schedule_tests` makes each schedule in every way of making events, and `tools/check decks` gives them to the
+//! program.
 
 use super::dump::Dump;
 

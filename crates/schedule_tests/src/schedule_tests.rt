@@ -6,7 +6,7 @@ ghost use Rattle.std.specs.Prelude.{◌≡◌};
 use super::dump::put_dump;
 use super::schedule::Schedule;
 use super::seat_holder::SeatHolder;
-use super::{branch_schedules, exchange_schedules, reference_schedules, register_schedules};
+use super::{reference_schedules, register_schedules};
 use deck::{Deck, read_deck};
 use device_text::CheckedWriter;
 use instructions::{Refusal, Unit};
@@ -375,28 +375,16 @@ fn expect_all(rt: &(impl Abort + AllocGlobal + Wait), schedules: &[Schedule]) ->
     Ok(())
 }
 
-/// Instructions that only read and set registers.
+/// Instructions that make no reference.
 #[test]
 fn registers(rt: HostRuntime) -> Result<(), Fail> {
     expect_all(&rt, register_schedules::SCHEDULES.as_slice())
 }
 
-/// Loads and stores.
+/// Loads, stores and peripheral accesses.
 #[test]
 fn references(rt: HostRuntime) -> Result<(), Fail> {
     expect_all(&rt, reference_schedules::SCHEDULES.as_slice())
-}
-
-/// Branches.
-#[test]
-fn branches(rt: HostRuntime) -> Result<(), Fail> {
-    expect_all(&rt, branch_schedules::SCHEDULES.as_slice())
-}
-
-/// Requests for exchanges.
-#[test]
-fn exchanges(rt: HostRuntime) -> Result<(), Fail> {
-    expect_all(&rt, exchange_schedules::SCHEDULES.as_slice())
 }
 
 /// Makes the events of a schedule without looking at their answers, and drains the machine.
@@ -413,11 +401,11 @@ fn are_busy(machine: &Machine, banks: &[u8]) -> bool {
     (0..32u8).all(|bank| machine.is_bank_busy(bank) == banks.contains(&bank))
 }
 
-/// The last schedule of loads leaves two banks busy. A drain frees bank 8, for which a load waits, and that load then
-/// takes it. Bank 31, for which nothing waits, stays busy.
+/// The last schedule with references leaves two banks busy. A drain frees bank 8, for which a load waits, and that load
+/// then takes it. Bank 31, for which nothing waits, stays busy.
 #[test]
 fn busy_banks(rt: HostRuntime) -> Result<(), Fail> {
-    let schedule = &reference_schedules::SCHEDULES[12];
+    let schedule = &reference_schedules::SCHEDULES[5];
     let deck = deck_of(rt.alloc(), schedule)?;
     let mut machine = booted(rt.alloc(), &deck, schedule)?;
     make_and_drain(&mut machine, schedule)?;

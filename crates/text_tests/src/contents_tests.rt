@@ -2,13 +2,12 @@
 
 use contents_text::{Part, put_contents, put_judgement};
 use deck::read_deck;
-use device_text::CheckedWriter;
+use device_text::{CheckedWriter, Output, WriteFailed};
 use instructions::{Refusal, Unit};
 use job_deck::booted;
 use machine::Machine;
 use program_order::Event;
 use std::alloc::Global;
-use std::process::Abort;
 use std::test::Fail;
 
 /// A deck with SA1 B0+17, SA2 B0+16 and IX3 X1+X2, which are followed by a stop. The word at 117 (octal) is 5.
@@ -37,44 +36,106 @@ const ENTERED: [Event; 8] = [
     Event::Issue,
 ];
 
-/// How many of these events are made before memory accepts the first load, if it does; a part, and its contents.
-const CONTENTS: [(usize, bool, Part, &str); 12] = [
-    (0, false, Part::Request, ""),
-    (1, false, Part::Request, "40\n"),
-    (2, false, Part::NextInstruction, "0 0 SA1 B0+17\n"),
-    (7, false, Part::Units, "increment1 2 issued SA2 B0+16\n"),
-    (7, false, Part::Hopper, "0 1 117 load SA1 B0+17\n"),
-    (7, false, Part::Channels, ""),
+/// What is asked of a machine: the contents of a part; or the answer that an event would get, with the instructions
+/// that hold it back.
+enum Asked {
+    Contents(Part),
+    Judgement(Event),
+}
+
+/// How many of these events are made before memory accepts the first load, if it does; what is asked, and its text.
+const ROWS: [(usize, bool, Asked, &str); 21] = [
+    (0, false, Asked::Contents(Part::Request), ""),
+    (1, false, Asked::Contents(Part::Request), "40\n"),
     (
-        7,
-        true,
-        Part::Channels,
-        "1 1 00000000000000000005 SA1 B0+17\n",
+        2,
+        false,
+        Asked::Contents(Part::NextInstruction),
+        "0 0 SA1 B0+17\n",
     ),
-    (7, true, Part::Banks, "15\n"),
-    (7, true, Part::NextInstruction, "1 0 IX3 X1+X2\n"),
     (
         7,
         false,
-        Part::ReservedRegisters,
+        Asked::Contents(Part::Units),
+        "increment1 2 issued SA2 B0+16\n",
+    ),
+    (
+        7,
+        false,
+        Asked::Contents(Part::Hopper),
+        "0 1 117 load SA1 B0+17\n",
+    ),
+    (7, false, Asked::Contents(Part::Channels), ""),
+    (
+        7,
+        true,
+        Asked::Contents(Part::Channels),
+        "1 1 00000000000000000005 SA1 B0+17\n",
+    ),
+    (7, true, Asked::Contents(Part::Banks), "15\n"),
+    (
+        7,
+        true,
+        Asked::Contents(Part::NextInstruction),
+        "1 0 IX3 X1+X2\n",
+    ),
+    (
+        7,
+        false,
+        Asked::Contents(Part::ReservedRegisters),
         "X1 1 SA1 B0+17\nA2 2 SA2 B0+16\nX2 2 SA2 B0+16\n",
     ),
-    (7, false, Part::UnreadOperands, ""),
-    (8, true, Part::UnreadOperands, "3 X1 1\n3 X2 2\n"),
-];
-
-/// How many of the events of `ENTERED` are made; a further event, the answer that it would get, and the instructions that
-/// hold it back.
-const JUDGEMENTS: [(usize, Event, &str); 9] = [
-    (2, Event::Issue, "ok increment1 1\n"),
-    (3, Event::Issue, "ok increment2 2\n"),
-    (8, Event::Issue, "ok\n"),
-    (8, Event::Read(Unit::Increment1), "ok\n"),
-    (8, Event::Read(Unit::LongAdd), "E9 operand awaited X1\n1\n"),
-    (8, Event::Store(Unit::LongAdd), "E15 nothing\n"),
-    (8, Event::Accept(0), "ok\n"),
-    (8, Event::PpRead(0o117), "E26 peripheral waits\n1\n2\n"),
-    (8, Event::PpRead(0), "E26 peripheral waits\n2\n"),
+    (7, false, Asked::Contents(Part::UnreadOperands), ""),
+    (
+        8,
+        true,
+        Asked::Contents(Part::UnreadOperands),
+        "3 X1 1\n3 X2 2\n",
+    ),
+    (
+        2,
+        false,
+        Asked::Judgement(Event::Issue),
+        "ok increment1 1\n",
+    ),
+    (
+        3,
+        false,
+        Asked::Judgement(Event::Issue),
+        "ok increment2 2\n",
+    ),
+    (8, false, Asked::Judgement(Event::Issue), "ok\n"),
+    (
+        8,
+        false,
+        Asked::Judgement(Event::Read(Unit::Increment1)),
+        "ok\n",
+    ),
+    (
+        8,
+        false,
+        Asked::Judgement(Event::Read(Unit::LongAdd)),
+        "E9 operand awaited X1\n1\n",
+    ),
+    (
+        8,
+        false,
+        Asked::Judgement(Event::Store(Unit::LongAdd)),
+        "E15 nothing\n",
+    ),
+    (8, false, Asked::Judgement(Event::Accept(0)), "ok\n"),
+    (
+        8,
+        false,
+        Asked::Judgement(Event::PpRead(0o117)),
+        "E26 peripheral waits\n1\n2\n",
+    ),
+    (
+        8,
+        false,
+        Asked::Judgement(Event::PpRead(0)),
+        "E26 peripheral waits\n2\n",
+    ),
 ];
 
 /// The machine after the first events.
@@ -91,48 +152,30 @@ fn after(alloc: Global, events: &[Event], is_accepted: bool) -> Result<Machine, 
     Ok(machine)
 }
 
-/// Expects the contents of a part of a machine.
-fn expect_contents(
-    rt: &(impl Abort + AllocGlobal),
+/// Writes what is asked of a machine.
+fn put_asked<O: Output>(
+    output: &mut O,
     machine: &Machine,
-    part: Part,
-    wanted: &str,
-) -> Result<(), Fail> {
-    let mut text = Vec::new(rt.alloc());
-    let mut output = CheckedWriter::new(&mut text);
-    put_contents(&mut output, machine, part)?;
-    assert!(rt; text.as_slice() == wanted.as_bytes(), "{wanted}");
-    Ok(())
-}
-
-#[test]
-fn contents_of_parts(rt: HostRuntime) -> Result<(), Fail> {
-    for (made, is_accepted, part, wanted) in &CONTENTS {
-        let machine = after(rt.alloc(), &ENTERED[..*made], *is_accepted)?;
-        expect_contents(&rt, &machine, *part, wanted)?;
+    asked: &Asked,
+) -> Result<(), WriteFailed> {
+    match asked {
+        Asked::Contents(part) => put_contents(output, machine, *part),
+        Asked::Judgement(event) => put_judgement(output, machine, *event),
     }
-    Ok(())
 }
 
-/// Expects the judgement of an event.
-fn expect_judgement(
-    rt: &(impl Abort + AllocGlobal),
-    machine: &Machine,
-    event: Event,
-    wanted: &str,
-) -> Result<(), Fail> {
-    let mut text = Vec::new(rt.alloc());
+/// Whether what is asked of a machine has this text.
+fn is_told(alloc: Global, machine: &Machine, asked: &Asked, wanted: &str) -> bool {
+    let mut text = Vec::new(alloc);
     let mut output = CheckedWriter::new(&mut text);
-    put_judgement(&mut output, machine, event)?;
-    assert!(rt; text.as_slice() == wanted.as_bytes(), "{wanted}");
-    Ok(())
+    put_asked(&mut output, machine, asked).is_ok() && text.as_slice() == wanted.as_bytes()
 }
 
 #[test]
-fn judgements(rt: HostRuntime) -> Result<(), Fail> {
-    for (made, event, wanted) in &JUDGEMENTS {
-        let machine = after(rt.alloc(), &ENTERED[..*made], false)?;
-        expect_judgement(&rt, &machine, *event, wanted)?;
+fn contents_and_judgements(rt: HostRuntime) -> Result<(), Fail> {
+    for (made, is_accepted, asked, wanted) in &ROWS {
+        let machine = after(rt.alloc(), &ENTERED[..*made], *is_accepted)?;
+        assert!(rt; is_told(rt.alloc(), &machine, asked, wanted), "{wanted}");
     }
     Ok(())
 }

@@ -1,97 +1,15 @@
-//! Tests of numbers, fields, lines and pieces, including devices that fail.
+//! Tests of lines that are read, and of pieces, with a device that fails.
 
-ghost use Rattle.std.specs.Prelude.{Some};
-
+use crate::fixtures::Dripping;
 use arrayvec::ArrayVec;
 use device_text::{
-    CheckedBufReader, CheckedReader, CheckedWriter, Input, LineRead, Output, Piece, ReadFailed,
-    WriteFailed, first_part, number, put_pieces, read_line, unit_named,
+    CheckedBufReader, CheckedReader, CheckedWriter, Input, LineRead, Output, Piece, WriteFailed,
+    put_pieces, read_line,
 };
 use instructions::Unit;
 use std::alloc::{AllocError, Global};
-use std::io;
-use std::io::{ErrorKind, Write};
 use std::process::Abort;
 use std::test::Fail;
-
-/// A writer that takes one byte per call, fails once it has `most` bytes, and counts the flushed bytes.
-#[derive(Drop)]
-struct Dripping {
-    bytes: Vec<u8>,
-    most: usize,
-    handed_on: usize,
-}
-
-impl Write for Dripping {
-    ghost contents = { λ d. Some d.bytes.items };
-
-    fn write(&mut self, buf: &[u8]) -> io::Result<usize> {
-        if self.bytes.len() >= self.most {
-            return Err(io::Error::from(ErrorKind::Other));
-        }
-        match buf.first() {
-            None => Ok(0),
-            Some(byte) => {
-                self.bytes.push(*byte)?;
-                Ok(1)
-            }
-        }
-    }
-
-    fn flush(&mut self) -> io::Result<()> {
-        self.handed_on = self.bytes.len();
-        Ok(())
-    }
-}
-
-/// The base, the digits and the number. There may be at most six digits.
-const NUMBERS: [(u32, &str, Option<u64>); 7] = [
-    (10, "0", Some(0)),
-    (10, "000256", Some(256)),
-    (8, "777777", Some(0o777777)),
-    (8, "", None),
-    (8, "8", None),
-    (8, "0000000", None),
-    (10, "-1", None),
-];
-
-#[test]
-fn numbers(rt: HostRuntime) -> Result<(), Fail> {
-    for (base, text, value) in &NUMBERS {
-        assert_eq!(rt; number(*base, 6, text.as_bytes()), *value, "{text}");
-    }
-    Ok(())
-}
-
-/// A text, its first field and the text after the space.
-const FIELDS: [(&str, &str, Option<&str>); 5] = [
-    ("", "", None),
-    ("end", "end", None),
-    ("at 100", "at", Some("100")),
-    (" at", "", Some("at")),
-    ("at ", "at", Some("")),
-];
-
-/// Whether a text has this first field and this rest after the space.
-fn has_fields(text: &str, first: &str, rest: Option<&str>) -> bool {
-    let (field, more) = first_part(text.as_bytes(), b' ');
-    field == first.as_bytes() && more == rest.map(|rest| rest.as_bytes())
-}
-
-#[test]
-fn fields(rt: HostRuntime) -> Result<(), Fail> {
-    for (text, first, rest) in &FIELDS {
-        assert!(rt; has_fields(text, first, *rest));
-    }
-    Ok(())
-}
-
-#[test]
-fn unit_names(rt: HostRuntime) -> Result<(), Fail> {
-    let named = unit_named(b"longadd");
-    assert!(rt; named == Some(Unit::LongAdd) && unit_named(b"LongAdd").is_none());
-    Ok(())
-}
 
 /// The result of each call of `read_line` on a text, with the line. The lines are a whole one, an empty one and one
 /// without a line end. Nothing follows them.
@@ -138,10 +56,7 @@ fn long_lines(rt: HostRuntime) -> Result<(), Fail> {
         let text = sevens(rt.alloc(), length)?;
         let mut bytes = text.as_slice();
         let mut line = ArrayVec::new();
-        let read: Result<LineRead, ReadFailed> = read_line(
-            &mut CheckedReader::new(&mut bytes),
-            &mut line,
-        );
+        let read = read_line(&mut CheckedReader::new(&mut bytes), &mut line);
         assert!(rt; read == Ok(took) && line.len() == length as usize);
     }
     Ok(())
@@ -168,8 +83,10 @@ fn pieces(rt: HostRuntime) -> Result<(), Fail> {
         let put = put_pieces(&mut output, pieces.as_slice());
         let wanted = if most < 32 { Err(WriteFailed) } else { Ok(()) };
         let is_put = put == wanted && output.flush().is_ok();
-        assert!(rt; is_put && dripping.handed_on == most, "{most}");
-        assert_eq!(rt; dripping.bytes.as_slice(), &line[..most]);
+        assert!(rt;
+            is_put && dripping.handed_on == most && dripping.bytes.as_slice() == &line[..most],
+            "{most}"
+        );
     }
     Ok(())
 }

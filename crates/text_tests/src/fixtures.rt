@@ -1,4 +1,4 @@
-//! Fixtures shared by the tests: devices that fail, texts and decks.
+//! Fixtures shared by the tests: devices that fail, texts and a deck.
 
 ghost use Rattle.std.specs.Prelude.{Some};
 
@@ -27,20 +27,19 @@ impl Read for Failing<'_> {
     }
 }
 
-/// A writer that takes one byte per call. Calls fail from call number `fails_from` on.
+/// A writer that takes one byte per call. It fails once it has `most` bytes, and counts the flushed bytes.
 #[derive(Drop)]
 pub struct Dripping {
     pub bytes: Vec<u8>,
-    pub turn: u64,
-    pub fails_from: u64,
+    pub most: usize,
+    pub handed_on: usize,
 }
 
 impl Write for Dripping {
     ghost contents = { λ d. Some d.bytes.items };
 
     fn write(&mut self, buf: &[u8]) -> io::Result<usize> {
-        self.turn = self.turn.wrapping_add(1);
-        if self.turn >= self.fails_from {
+        if self.bytes.len() >= self.most {
             return Err(io::Error::from(ErrorKind::Other));
         }
         match buf.first() {
@@ -53,6 +52,7 @@ impl Write for Dripping {
     }
 
     fn flush(&mut self) -> io::Result<()> {
+        self.handed_on = self.bytes.len();
         Ok(())
     }
 }
@@ -66,8 +66,8 @@ pub fn joined(alloc: Global, texts: &[&str]) -> Result<Vec<u8>, AllocError> {
     Ok(all)
 }
 
-/// A deck with four words.
-pub const FOUR_WORDS: &str = "\
+/// A deck with four words: a package at 40, and a program of two increments, a sum and a difference.
+pub const DECK: &str = "\
     core 256\n\
     at 100\n\
     word 71100000057120000003\n\

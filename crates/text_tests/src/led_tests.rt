@@ -46,7 +46,7 @@ fn faithful_session<R: Read, W: Write>(
     Ok(())
 }
 
-/// A session with an exchange, an issue and a drain.
+/// A session with an exchange, an issue and a drain, after which nothing is read.
 #[test]
 fn to_its_end(rt: HostRuntime) -> Result<(), Fail> {
     let mut input = "\
@@ -61,12 +61,14 @@ fn to_its_end(rt: HostRuntime) -> Result<(), Fail> {
         ask 40\n\
         exchange\n\
         issue\n\
-        drain\n"
+        drain\n\
+        more\n"
         .as_bytes();
     let mut output = Vec::new(rt.alloc());
     let result = faithful_session(rt.alloc(), &mut input, &mut output, 4);
     let text = output.as_slice();
-    assert!(rt; result.is_ok() && text.starts_with(b"ok\nok\nok increment1 1\nP "));
-    assert!(rt; text.ends_with(b"LOG E40 I1\n"));
+    let is_written = text.starts_with(b"ok\nok\nok increment1 1\nP ")
+        && text.ends_with(b"LOG E40 I1\n");
+    assert!(rt; result.is_ok() && is_written && input == b"more\n".as_slice());
     Ok(())
 }

@@ -1,7 +1,7 @@
-//! Tests of exit statuses, the texts of faults, and budgets.
+//! Tests of exit statuses and of the texts of faults.
 
-use instructions::{DeckFault, Digit, Halt, MOST_ISSUES, Op};
-use operator_terms::{Budget, ProgramFault, end_status};
+use instructions::{DeckFault, Digit, Halt, Op};
+use operator_terms::{ProgramFault, end_status};
 use registers::RegisterFile;
 use relocation::{Area, Storage};
 use sequential::{ProgramPosition, State};
@@ -40,82 +40,56 @@ fn statuses(rt: HostRuntime) -> Result<(), Fail> {
     ] {
         assert_eq!(rt; ended_code(rt.alloc(), halt, fault)?, code);
     }
-    assert_eq!(rt; ProgramFault::OutOfMemory.exit_code(), 6);
     Ok(())
 }
 
-/// Expects the text of a fault.
-fn expect_text(
+/// Faults that end the program, with the exit status and the text of each.
+const FAULTS: [(ProgramFault, u8, &str); 9] = [
+    (ProgramFault::PackageRange, 2, "E19 package range"),
+    (ProgramFault::PeripheralRange, 2, "E27 peripheral range"),
+    (ProgramFault::BadLog, 2, "bad log"),
+    (ProgramFault::OutOfMemory, 6, "E21 out of memory"),
+    (ProgramFault::Read, 7, "E22 read failed"),
+    (ProgramFault::Write, 7, "E23 write failed"),
+    (
+        ProgramFault::Stuck,
+        5,
+        "the machine refused a step of the run",
+    ),
+    (
+        ProgramFault::Deck {
+            line: 1,
+            fault: DeckFault::NoEnd,
+        },
+        1,
+        "E20 line 1: no end",
+    ),
+    (
+        ProgramFault::Deck {
+            line: 10_000_001,
+            fault: DeckFault::Lines,
+        },
+        1,
+        "E20 line 10000001: lines",
+    ),
+];
+
+/// Expects the exit status and the text of a fault.
+fn expect_fault(
     rt: &(impl Abort + AllocGlobal),
     fault: &ProgramFault,
+    code: u8,
     text: &str,
 ) -> Result<(), Fail> {
     let found = fault.to_string(rt.alloc())?;
-    assert_eq!(rt; found.as_str(), text);
+    assert_eq!(rt; (fault.exit_code(), found.as_str()), (code, text));
     Ok(())
 }
-
-/// Faults that aren't faults of a deck, and their texts.
-const FAULT_TEXTS: [(ProgramFault, &str); 7] = [
-    (ProgramFault::PackageRange, "E19 package range"),
-    (ProgramFault::PeripheralRange, "E27 peripheral range"),
-    (ProgramFault::BadLog, "bad log"),
-    (ProgramFault::OutOfMemory, "E21 out of memory"),
-    (ProgramFault::Read, "E22 read failed"),
-    (ProgramFault::Write, "E23 write failed"),
-    (ProgramFault::Stuck, "the machine refused a step of the run"),
-];
 
 #[test]
 fn fault_texts(rt: HostRuntime) -> Result<(), Fail> {
-    for (fault, text) in &FAULT_TEXTS {
-        expect_text(&rt, fault, text)?;
-    }
-    Ok(())
-}
-
-/// Faults of a deck, and their texts for line 10000001.
-const DECK_FAULT_TEXTS: [(DeckFault, &str); 14] = [
-    (DeckFault::Lines, "E20 line 10000001: lines"),
-    (DeckFault::Long, "E20 line 10000001: long"),
-    (DeckFault::First, "E20 line 10000001: first"),
-    (DeckFault::Unknown, "E20 line 10000001: unknown"),
-    (DeckFault::Number, "E20 line 10000001: number"),
-    (DeckFault::Size, "E20 line 10000001: size"),
-    (DeckFault::Repeated, "E20 line 10000001: repeated"),
-    (DeckFault::Many, "E20 line 10000001: many"),
-    (DeckFault::Range, "E20 line 10000001: range"),
-    (DeckFault::Package, "E20 line 10000001: package"),
-    (DeckFault::Instruction, "E20 line 10000001: instruction"),
-    (DeckFault::Full, "E20 line 10000001: full"),
-    (DeckFault::NoStart, "E20 line 10000001: no start"),
-    (DeckFault::NoEnd, "E20 line 10000001: no end"),
-];
-
-#[test]
-fn deck_fault_texts(rt: HostRuntime) -> Result<(), Fail> {
-    let line = 10_000_001;
-    for (fault, text) in &DECK_FAULT_TEXTS {
-        let fault = ProgramFault::Deck {
-            line,
-            fault: *fault,
-        };
-        expect_text(&rt, &fault, text)?;
-    }
-    Ok(())
-}
-
-#[test]
-fn budgets(rt: HostRuntime) -> Result<(), Fail> {
-    for (instructions, is_one) in [
-        (0, false),
-        (1, true),
-        (MOST_ISSUES, true),
-        (MOST_ISSUES + 1, false),
-    ] {
-        let wanted = if is_one { Some(instructions) } else { None };
-        let budget = Budget::new(instructions).map(|budget| budget.get());
-        assert_eq!(rt; budget, wanted);
+    for (fault, code, text) in &FAULTS {
+        expect_fault(&rt, fault, *code, text)?;
     }
     Ok(())
 }

@@ -3,27 +3,6 @@
 use sequential_run::Requests;
 use std::test::Fail;
 
-/// The requests that are due before each of eight instructions, if each exchange is made at once. Of several due
-/// requests, the one after the fewest instructions comes first.
-#[test]
-fn requests_in_turn(rt: HostRuntime) -> Result<(), Fail> {
-    let asks = [(0o60, 4), (0o100, 2), (0o120, 4), (0o140, 0), (0o160, 9)];
-    let mut requests = Requests::new(rt.alloc(), 0o40, asks.as_slice())?;
-    let mut made = Vec::new(rt.alloc());
-    for issued in 0..8u32 {
-        for _ in 0..3u32 {
-            if let Some(ask) = requests.take_due() {
-                made.push((issued, ask.0))?;
-                requests.exchanged();
-            }
-        }
-        requests.issued();
-    }
-    let wanted = [(0, 0o40), (0, 0o140), (2, 0o100), (4, 0o60), (4, 0o120)];
-    assert!(rt; made.as_slice() == wanted.as_slice());
-    Ok(())
-}
-
 /// No request is due while another waits, though the next one is known.
 #[test]
 fn waiting_request(rt: HostRuntime) -> Result<(), Fail> {
@@ -45,7 +24,7 @@ fn waiting_request(rt: HostRuntime) -> Result<(), Fail> {
     Ok(())
 }
 
-/// Several instructions are counted at once, up to the next request and no further.
+/// Several instructions are counted at once, up to the next request and no further, and then one.
 #[test]
 fn requests_ahead(rt: HostRuntime) -> Result<(), Fail> {
     let asks = [(0o60, 4)];
@@ -55,7 +34,7 @@ fn requests_ahead(rt: HostRuntime) -> Result<(), Fail> {
     let ahead = requests.until_due();
     requests.issued_many(3);
     let (left, none) = (requests.until_due(), requests.take_due());
-    requests.issued_many(1);
+    requests.issued();
     let second = requests.take_due();
     assert!(rt;
         first == Some((0o40, 0))

@@ -1,92 +1,14 @@
-//! Tests of sequential runs: of decks, of a memory with requests, and by callers that know a run from the contract
-//! alone.
+//! Tests of sequential runs of a memory with requests, by callers that know a run from the contract alone.
 
 ghost use Rattle.std.specs.Prelude.{◌≡◌, ◌+◌, ◌<◌, ◌^◌, length, IfSome, IfOk};
 ghost use Rattle.sequential_run.specs.Made.{IsMadeByEvents};
 
-use crate::fixtures::{FOUR_WORDS, Failing, joined};
 use instructions::{Halt, Refusal};
 use relocation::Storage;
 use sequential::Entry;
 use sequential_run::{Ask, CompletedRun, a_run_by_one_is_made_by_events, a_run_has_one_result};
-use std::alloc::{AllocError, Global};
-use std::process::Abort;
+use std::alloc::Global;
 use std::test::Fail;
-
-/// A deck without its `end` line. Its packages, at 0, 20, 40 and 60, all start the same program of five `NO` and a
-/// stop. So a word ends after four instructions.
-const FOUR_PACKAGES: &str = "\
-    core 256\n\
-    at 1\nword 200000000000000\nword 20000000000000\n\
-    at 21\nword 200000000000000\nword 20000000000000\n\
-    at 41\nword 200000000000000\nword 20000000000000\n\
-    at 61\nword 200000000000000\nword 20000000000000\n\
-    at 200\ncode NO; NO; NO; NO\ncode NO; PS\n\
-    start 0\n";
-
-/// Lines with requests, a budget, and the log of the run.
-const RUNS: [(&str, u64, &str); 8] = [
-    ("end\n", 1_000_000, "\nLOG E0 I6\n"),
-    ("ask 20 after 1\nend\n", 1_000_000, "\nLOG E0 I4 E20 I6\n"),
-    ("ask 20 after 1\nend\n", 2, "\nLOG E0 I2\n"),
-    ("ask 20 after 6\nend\n", 6, "\nLOG E0 I6 E20\n"),
-    ("ask 20 free\nend\n", 100, "\nLOG E0 E20 I6\n"),
-    (
-        "ask 40 after 0\nask 20 free\nend\n",
-        100,
-        "\nLOG E0 E40 E20 I6\n",
-    ),
-    (
-        "ask 40 after 1\nask 20 free\nend\n",
-        100,
-        "\nLOG E0 E20 I4 E40 I6\n",
-    ),
-    (
-        "ask 20 free\nask 40 free\nask 60 after 7\nend\n",
-        100,
-        "\nLOG E0 E20 E40 I6\n",
-    ),
-];
-
-/// Runs the deck of four packages with these lines, and expects this log.
-fn expect_log(
-    rt: &(impl Abort + AllocGlobal),
-    lines: &str,
-    budget: u64,
-    log: &str,
-) -> Result<(), Fail> {
-    let deck = joined(rt.alloc(), [FOUR_PACKAGES, lines].as_slice())?;
-    let mut input = deck.as_slice();
-    let mut output = Vec::new(rt.alloc());
-    let ended = job_deck::run_sequentially(rt.alloc(), &mut input, &mut output, budget);
-    assert!(rt;
-        ended.is_ok() && output.as_slice().ends_with(log.as_bytes()),
-        "{lines}"
-    );
-    Ok(())
-}
-
-#[test]
-fn runs_of_decks(rt: HostRuntime) -> Result<(), Fail> {
-    for (lines, budget, log) in &RUNS {
-        expect_log(&rt, lines, *budget, log)?;
-    }
-    Ok(())
-}
-
-/// Nothing is printed if the deck can't be read to its end.
-#[test]
-fn run_of_failing_reader(rt: HostRuntime) -> Result<(), Fail> {
-    let mut input = Failing {
-        bytes: FOUR_WORDS.as_bytes(),
-        turn: 0,
-        fails_from: 2,
-    };
-    let mut output = Vec::new(rt.alloc());
-    let ended = job_deck::run_sequentially(rt.alloc(), &mut input, &mut output, 9);
-    assert!(rt; matches!(ended, Err(Refusal::Read)) && output.is_empty());
-    Ok(())
-}
 
 /// Runs the same memory, first package, requests and budget twice. Both runs have the same log and the same final
 /// state.
@@ -134,34 +56,53 @@ fn runs_as_by_events(
     }
 }
 
-/// The first exchange of a booted memory of zeros loads an empty package. Its field length is 0, so the first fetch is
-/// out of range. An exchange with a package that doesn't lie in memory is refused.
+/// The log of a run of zeros with the package at 0 and then the one at 16. The first exchange loads an empty package. Its
+/// field length is 0, so the first fetch is out of range.
+const EXCHANGED: [Entry; 4] = [
+    Entry::Exchange(0),
+    Entry::Issued(1),
+    Entry::Exchange(16),
+    Entry::Issued(1),
+];
+
+/// Whether two runs have this log.
+fn has_one_log(alloc: Global) -> bool {
+    let Ok(memory) = Storage::new(alloc, 32) else {
+        return false;
+    };
+    match runs_twice(alloc, memory, 0, &[(16, 1)], &[], 5) {
+        Some((first, second)) => first.log.entries() == EXCHANGED.as_slice()
+            && second.log.entries() == EXCHANGED.as_slice(),
+        None => false,
+    }
+}
+
+/// Whether a run with the package at 16 and then the one at 0 ends at its first fetch.
+fn ends_at_its_fetch(alloc: Global) -> bool {
+    let Ok(memory) = Storage::new(alloc, 32) else {
+        return false;
+    };
+    match runs_as_by_events(alloc, memory, 16, &[0], 5) {
+        Ok(ended) => ended.state.halt == Some(Halt::FetchRange) && ended.log.issues() == 1,
+        Err(_) => false,
+    }
+}
+
+/// Whether an exchange with a package that doesn't lie in memory is refused.
+fn is_refused(alloc: Global) -> bool {
+    let Ok(memory) = Storage::new(alloc, 32) else {
+        return false;
+    };
+    matches!(
+        sequential_run::run(alloc, memory, 17, &[], &[], 5),
+        Err(Refusal::PackageRange)
+    )
+}
+
 #[test]
 fn runs_by_memory(rt: HostRuntime) -> Result<(), Fail> {
-    let (Ok(memory), Ok(other), Ok(third)) = (
-        Storage::new(rt.alloc(), 32),
-        Storage::new(rt.alloc(), 32),
-        Storage::new(rt.alloc(), 32),
-    ) else {
-        return Err(Fail::from(AllocError));
-    };
-    let Some((first, second)) = runs_twice(rt.alloc(), memory, 0, &[(16, 1)], &[], 5) else {
-        return Err(Fail::from(AllocError));
-    };
-    let Ok(alone) = runs_as_by_events(rt.alloc(), other, 16, &[0], 5) else {
-        return Err(Fail::from(AllocError));
-    };
-    let wanted = [
-        Entry::Exchange(0),
-        Entry::Issued(1),
-        Entry::Exchange(16),
-        Entry::Issued(1),
-    ];
-    assert!(rt;
-        first.log.entries() == wanted.as_slice() && second.log.entries() == wanted.as_slice()
-    );
-    assert!(rt; alone.state.halt == Some(Halt::FetchRange) && alone.log.issues() == 1);
-    let refused = sequential_run::run(rt.alloc(), third, 17, &[], &[], 5);
-    assert!(rt; matches!(refused, Err(Refusal::PackageRange)));
+    assert!(rt; has_one_log(rt.alloc()));
+    assert!(rt; ends_at_its_fetch(rt.alloc()));
+    assert!(rt; is_refused(rt.alloc()));
     Ok(())
 }

@@ -1,27 +1,35 @@
-//! Tests of sessions: their answers, the output before a failure, and the input that is left unread.
+//! Tests of sessions, lists, replays and runs with devices that fail: what is answered, what was written before, and
+//! what is left unread.
 
-use crate::fixtures::{Dripping, Failing, joined};
-use instructions::{DeckFault, Refusal};
-use job_deck::{events, replay};
-use std::alloc::{AllocGlobal, Global};
-use std::io::Read;
+use crate::fixtures::{DECK, Dripping, Failing, joined};
+use instructions::Refusal;
+use job_deck::{events, list, replay, replay_following, run_sequentially};
+use sequential::State;
+use std::alloc::Global;
+use std::io::{Read, Write};
 use std::process::Abort;
 use std::test::Fail;
 
-/// A deck of ten lines: a package at 40, and a program of two increments, a sum and a difference.
-pub const DECK: &str = "\
-    core 256\n\
-    at 41\n\
-    word 00000100000000000000\n\
-    word 00000020000000000000\n\
-    at 100\n\
-    word 71100000057120000003\n\
-    word 36312374214600000000\n\
-    start 40\n\
-    show 100 101\n\
-    end\n";
+/// What is done with a deck: the replay of a given log, or of the log that follows; a run of three instructions, or a
+/// session with one.
+enum Job {
+    List,
+    Replay,
+    ReplayFollowing,
+    Run,
+    Events,
+}
 
-pub const EXCHANGED: &str = "\
+const LISTING: &str = "\
+    000041 00000100000000000000 PS; BX0 X0; PS; PS\n\
+    000042 00000020000000000000 PS; JP B0+0; PS\n\
+    000100 71100000057120000003 SX1 B0+5; SX2 B0+3\n\
+    000101 36312374214600000000 IX3 X1+X2; IX4 X2-X1; NO; PS\n";
+
+/// The dump after three instructions.
+const DUMP: &str = "\
+    P 000001 PARCEL 1 HELD 36312374214600000000\n\
+    HALT running FAULT none\n\
     RA 000100 FL 000020 EM 000000\n\
     A 000000 000000 000000 000000 000000 000000 000000 000000\n\
     B 000000 000000 000000 000000 000000 000000 000000 000000\n\
@@ -33,171 +41,138 @@ pub const EXCHANGED: &str = "\
     X5 00000000000000000000\n\
     X6 00000000000000000000\n\
     X7 00000000000000000000\n\
-    M 000100 71100000057120000003\n\
-    M 000101 36312374214600000000\n";
+    LOG E40 I3\n";
 
-const BOOTED: &str = "\
-    P 000000 PARCEL 0 HELD none\n\
-    HALT stop FAULT none\n\
-    RA 000000 FL 000000 EM 000000\n\
-    A 000000 000000 000000 000000 000000 000000 000000 000000\n\
-    B 000000 000000 000000 000000 000000 000000 000000 000000\n\
-    X0 00000000000000000000\n\
-    X1 00000000000000000000\n\
-    X2 00000000000000000000\n\
-    X3 00000000000000000000\n\
-    X4 00000000000000000000\n\
-    X5 00000000000000000000\n\
-    X6 00000000000000000000\n\
-    X7 00000000000000000000\n\
-    LOG none\n";
+/// What is done, what follows the deck, and the whole output.
+const JOBS: [(Job, &str, &str); 5] = [
+    (Job::List, "", LISTING),
+    (Job::Replay, "", DUMP),
+    (Job::ReplayFollowing, "E40 I3\n", DUMP),
+    (Job::Run, "", DUMP),
+    (
+        Job::Events,
+        "ask 40\nexchange\nissue\nend\n",
+        "ok\nok\nok increment1 1\nNOT DRAINED\nLOG E40 I1\n",
+    ),
+];
 
-/// Whether a session from a reader has this result and writes these bytes.
-fn session_ends_so<R: Read>(
+/// What a replay answers, without its state.
+fn replayed(ended: Result<Option<State>, Refusal>) -> Result<(), Refusal> {
+    match ended {
+        Ok(Some(_)) => Ok(()),
+        Ok(None) => Err(Refusal::Nothing),
+        Err(refusal) => Err(refusal),
+    }
+}
+
+/// What a run answers, without its state.
+fn ran(ended: Result<State, Refusal>) -> Result<(), Refusal> {
+    let _ = ended?;
+    Ok(())
+}
+
+/// Does a job from any reader to any writer.
+fn done<R: Read, W: Write>(
     alloc: Global,
+    job: &Job,
     reader: &mut R,
-    wanted: Result<(), Refusal>,
-    written: &[u8],
-) -> bool {
-    let mut output = Vec::new(alloc);
-    let result = events(alloc, reader, &mut output, 4);
-    result == wanted && output.as_slice() == written
+    writer: &mut W,
+) -> Result<(), Refusal> {
+    match job {
+        Job::List => list(alloc, reader, writer),
+        Job::Replay => replayed(replay(alloc, reader, writer, "E40 I3")),
+        Job::ReplayFollowing => replayed(replay_following(alloc, reader, writer)),
+        Job::Run => ran(run_sequentially(alloc, reader, writer, 3)),
+        Job::Events => events(alloc, reader, writer, 1),
+    }
 }
 
-/// Expects that the session of a deck and its schedule writes these texts and leaves the rest unread.
-fn expect_session(
+/// Does a job with a reader that fails at some reads, the one after the last byte too. That byte ends the job, so the
+/// last reader doesn't fail.
+fn expect_read_failures(
     rt: &(impl Abort + AllocGlobal),
-    deck: &str,
-    schedule: &str,
-    rest: &str,
-    texts: &[&str],
+    job: &Job,
+    bytes: &[u8],
+    whole: &[u8],
 ) -> Result<(), Fail> {
-    let bytes = joined(rt.alloc(), [deck, schedule, rest].as_slice())?;
-    let written = joined(rt.alloc(), texts)?;
-    let mut input = bytes.as_slice();
-    let is_written = session_ends_so(rt.alloc(), &mut input, Ok(()), written.as_slice());
-    assert!(rt; is_written && input == rest.as_bytes());
-    Ok(())
-}
-
-#[test]
-fn drains_two_sums(rt: HostRuntime) -> Result<(), Fail> {
-    expect_session(
-        &rt,
-        DECK,
-        "ask 40\nexchange\nissue\nissue\nissue\nissue\nread longadd\ndrain\n",
-        "more\n",
-        [
-            "ok\nok\nok increment1 1\nok increment2 2\nok longadd 3\nE7 unit busy longadd\nE9 operand awaited X1\n",
-            "P 000001 PARCEL 1 HELD 36312374214600000000\nHALT running FAULT none\n",
-            EXCHANGED,
-            "LOG E40 I3\n",
-        ]
-        .as_slice(),
-    )
-}
-
-/// A replay of the session's three instructions, one at a time.
-#[test]
-fn replays_two_sums(rt: HostRuntime) -> Result<(), Fail> {
-    let mut input = DECK.as_bytes();
-    let mut output = Vec::new(rt.alloc());
-    let replayed = replay(rt.alloc(), &mut input, &mut output, "E40 I3");
-    let is_replayed = matches!(replayed, Ok(Some(_)));
-    let position = "P 000001 PARCEL 1 HELD 36312374214600000000\nHALT running FAULT none\n";
-    let wanted = joined(rt.alloc(), [position, EXCHANGED, "LOG E40 I3\n"].as_slice())?;
-    assert_eq!(rt; (is_replayed, output), (true, wanted));
-    Ok(())
-}
-
-#[test]
-fn ends_where_it_stands(rt: HostRuntime) -> Result<(), Fail> {
-    for (deck, schedule, text) in [
-        ("core 32\nstart 0\nend\n", "end\n", BOOTED),
-        (
-            DECK,
-            "ask 40\nexchange\nissue\nend\n",
-            "ok\nok\nok increment1 1\nNOT DRAINED\nLOG E40 I1\n",
-        ),
-    ] {
-        expect_session(&rt, deck, schedule, "", [text].as_slice())?;
+    let reads = bytes.len() as u64;
+    for fails_from in [1, 2, reads, reads.saturating_add(1)] {
+        let mut input = Failing {
+            bytes,
+            turn: 0,
+            fails_from,
+        };
+        let mut output = Vec::new(rt.alloc());
+        let ended = done(rt.alloc(), job, &mut input, &mut output);
+        let is_whole = fails_from > reads;
+        let wanted = if is_whole { Ok(()) } else { Err(Refusal::Read) };
+        let is_beginning = whole.starts_with(output.as_slice());
+        assert!(rt;
+            ended == wanted && is_beginning && (output.len() == whole.len()) == is_whole,
+            "{fails_from}"
+        );
     }
     Ok(())
 }
 
-/// Expects that a schedule is refused at this line and with this fault, after these answers. The deck has ten lines.
-fn expect_fault(
-    rt: &(impl Abort + AllocGlobal),
-    schedule: &str,
-    answers: &str,
-    line: u32,
-    fault: DeckFault,
-) -> Result<(), Fail> {
-    let bytes = joined(rt.alloc(), [DECK, schedule].as_slice())?;
-    let mut input = bytes.as_slice();
-    let refused = Err(Refusal::Deck { line, fault });
-    assert!(rt; session_ends_so(rt.alloc(), &mut input, refused, answers.as_bytes()));
-    Ok(())
-}
-
-/// Schedules after the deck, their answers, and the number and fault of the faulty line.
-const FAULTY: [(&str, &str, u32, DeckFault); 11] = [
-    ("", "", 11, DeckFault::NoEnd),
-    ("issue\n", "E1 halted stop\n", 12, DeckFault::NoEnd),
-    ("ask 40\nread jump\nend\n", "ok\n", 12, DeckFault::Unknown),
-    ("read add add\n", "", 11, DeckFault::Unknown),
-    ("end \n", "", 11, DeckFault::Unknown),
-    ("\n", "", 11, DeckFault::Unknown),
-    ("jump 9\n", "", 11, DeckFault::Unknown),
-    ("ask 48\n", "", 11, DeckFault::Number),
-    ("ask 0000040\n", "", 11, DeckFault::Number),
-    ("accept 123\n", "", 11, DeckFault::Number),
-    ("bank \n", "", 11, DeckFault::Number),
-];
-
 #[test]
-fn faulty_schedules(rt: HostRuntime) -> Result<(), Fail> {
-    for (schedule, answers, line, fault) in &FAULTY {
-        expect_fault(&rt, schedule, answers, *line, *fault)?;
+fn from_failing_readers(rt: HostRuntime) -> Result<(), Fail> {
+    for (job, follows, whole) in &JOBS {
+        let bytes = joined(rt.alloc(), [DECK, follows].as_slice())?;
+        expect_read_failures(&rt, job, bytes.as_slice(), whole.as_bytes())?;
     }
     Ok(())
 }
 
-/// Schedules without a last line, their answers, and the number of the missing line.
-const ENDLESS: [(&str, &str, u32); 3] = [
-    (
-        "finish add\nstore divide\naccept 3\nreturn 05\nbank 31\nexchange\n",
-        "E15 nothing\nE15 nothing\nE15 nothing\nE15 nothing\nE15 nothing\nE15 nothing\n",
-        17,
-    ),
-    (
-        "ask 361\nask 360\nask 0\n",
-        "E19 package range\nok\nE17 exchange busy\n",
-        14,
-    ),
-    (
-        "ask 40\nexchange\nissue\nask 40\nexchange\n",
-        "ok\nok\nok increment1 1\nok\nE18 not drained\n",
-        16,
-    ),
-];
+/// Does a job with a writer that takes a byte per call and fails once it has so many.
+fn expect_write_failures(
+    rt: &(impl Abort + AllocGlobal),
+    job: &Job,
+    bytes: &[u8],
+    whole: &[u8],
+) -> Result<(), Fail> {
+    let length = whole.len();
+    for most in [0, 1, 5, length.saturating_sub(1), length] {
+        let mut input = bytes;
+        let mut output = Dripping {
+            bytes: Vec::new(rt.alloc()),
+            most,
+            handed_on: 0,
+        };
+        let ended = done(rt.alloc(), job, &mut input, &mut output);
+        let is_beginning = whole.starts_with(output.bytes.as_slice());
+        let wanted = if most < length {
+            Err(Refusal::Write)
+        } else {
+            Ok(())
+        };
+        assert!(rt;
+            ended == wanted && is_beginning && output.bytes.len() == most,
+            "{most}"
+        );
+    }
+    Ok(())
+}
 
 #[test]
-fn endless_schedules(rt: HostRuntime) -> Result<(), Fail> {
-    for (schedule, answers, line) in &ENDLESS {
-        expect_fault(&rt, schedule, answers, *line, DeckFault::NoEnd)?;
+fn to_failing_writers(rt: HostRuntime) -> Result<(), Fail> {
+    for (job, follows, whole) in &JOBS {
+        let bytes = joined(rt.alloc(), [DECK, follows].as_slice())?;
+        expect_write_failures(&rt, job, bytes.as_slice(), whole.as_bytes())?;
     }
     Ok(())
 }
 
 /// Whether a session fails at read number `fails_from` after writing these answers.
-fn fails_after(alloc: Global, bytes: &[u8], fails_from: u64, answers: &str) -> bool {
+fn fails_after(alloc: Global, bytes: &[u8], fails_from: u64, answers: &[u8]) -> bool {
     let mut input = Failing {
         bytes,
         turn: 0,
         fails_from,
     };
-    session_ends_so(alloc, &mut input, Err(Refusal::Read), answers.as_bytes())
+    let mut output = Vec::new(alloc);
+    let ended = events(alloc, &mut input, &mut output, 4);
+    ended == Err(Refusal::Read) && output.as_slice() == answers
 }
 
 /// Each line is answered before the next line is read.
@@ -205,19 +180,22 @@ fn fails_after(alloc: Global, bytes: &[u8], fails_from: u64, answers: &str) -> b
 fn answers_before_a_failing_read(rt: HostRuntime) -> Result<(), Fail> {
     let bytes = joined(rt.alloc(), [DECK, "issue\nissue\n"].as_slice())?;
     let read = DECK.len() as u64 + 6;
-    assert!(rt; fails_after(rt.alloc(), bytes.as_slice(), read, ""));
-    assert!(rt; fails_after(rt.alloc(), bytes.as_slice(), read + 1, "E1 halted stop\n"));
+    assert!(rt;
+        fails_after(rt.alloc(), bytes.as_slice(), read, b"")
+            && fails_after(rt.alloc(), bytes.as_slice(), read + 1, b"E1 halted stop\n")
+    );
     Ok(())
 }
 
+/// After an answer that can't be written no further line is read.
 #[test]
 fn answers_to_a_failing_writer(rt: HostRuntime) -> Result<(), Fail> {
     let bytes = joined(rt.alloc(), [DECK, "issue\nissue\n"].as_slice())?;
     let mut input = bytes.as_slice();
     let mut output = Dripping {
         bytes: Vec::new(rt.alloc()),
-        turn: 0,
-        fails_from: 5,
+        most: 4,
+        handed_on: 0,
     };
     let result = events(rt.alloc(), &mut input, &mut output, 4);
     let is_cut = result == Err(Refusal::Write) && output.bytes.as_slice() == b"E1 h".as_slice();

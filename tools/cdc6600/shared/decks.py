@@ -144,6 +144,12 @@ def shown_by_sessions() -> dict[str, str]:
     return {name.strip("`"): shown for name, shown in rows}
 
 
+def drained_by_sessions() -> dict[str, int]:
+    """How many events the drain makes that ends a session, by its name, as decks/README.md says of some sessions."""
+    rows = [cells for cells in cells_of(FOLDER / "README.md", "Drains") if cells[0].startswith("`")]
+    return {name.strip("`"): int(events) for name, events in rows}
+
+
 def rows_of(page: Path) -> list[list[str]]:
     """The rows of a page whose first cell is a text in backquotes; no backquote is in what is given."""
     return [[cell.replace("`", "") for cell in cells] for cells in cells_of(page) if cells[0].startswith("`")]
