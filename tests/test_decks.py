@@ -5,7 +5,7 @@ status with the files beside it, which decks/README.md names.
   depends on how these fall, it is one of the deck's logs, and what is printed is what its replay prints.
 - The rows of the pages refusals.md and requests.md are tried, those of refusals at a terminal too.
 - The timeline of each session and the picture docs/use/conflicts.svg are drawn and compared.
-- Each drain of which decks/README.md says how many events it makes is made by the library.
+- The library makes each drain in the table of decks/README.md, and the number of the drain's events is compared.
 - The worked schedules of crates/schedule_tests are made as sessions. They are constants in Rust, whose numbers, texts,
   lists and pairs are written as in Python, so they are read as Python.
 

@@ -145,7 +145,8 @@ def shown_by_sessions() -> dict[str, str]:
 
 
 def drained_by_sessions() -> dict[str, int]:
-    """How many events the drain makes that ends a session, by its name, as decks/README.md says of some sessions."""
+    """The number of events that the last line of a session makes, a drain, by the session's name. decks/README.md has
+    the numbers for some sessions."""
     rows = [cells for cells in cells_of(FOLDER / "README.md", "Drains") if cells[0].startswith("`")]
     return {name.strip("`"): int(events) for name, events in rows}
 
