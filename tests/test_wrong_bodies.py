@@ -28,7 +28,6 @@ from cdc6600.wrong_bodies.copies import beside, can_stand_beside, copied, copy_o
 from cdc6600.wrong_bodies.edits import LET_THROUGH, UNSURE as NOT_SURE, merged, read_bodies, read_body
 from cdc6600.wrong_bodies.groups import clash, grouped, reached
 from cdc6600.wrong_bodies.kept import ROWS, read_rows, sum_of_contracts, sum_of_crate
-from cdc6600.wrong_bodies.libraries import stamps
 from cdc6600.wrong_bodies.opening import Opening, opened
 from cdc6600.wrong_bodies.second import after_one
 from cdc6600.wrong_bodies.verdicts import CANT_TELL, REFUSED as IS_REFUSED, is_of, outcome_of
@@ -93,6 +92,22 @@ SAID = {
 }
 # One at which the check comes to no verdict, so that all of its group are tried again.
 NO_VERDICT: Edit = ("if a < b { a } else { b }", "if a < b { a } else { c }")
+
+# A crate above the other one.
+ABOVE = """//! A function that calls another crate.
+#![tactic(auto)]
+
+ghost use Rattle.std.specs.Prelude.{◌≡◌, ◌+◌, ◌<◌};
+
+/// The number after the next one.
+pub fn two_on(x: u64) -> u64
+    requires { x < 90 }
+    ensures { result ≡ x + 2 }
+{
+    let next = tiny::plus_one(x);
+    next + 1
+}
+"""
 
 # What a check may say of a function, and its last line.
 LEFT = "fn tiny::plus_two: no proof: `search` did not prove `returns`"
@@ -178,10 +193,6 @@ class Tiny:
 def tiny(tmp_path_factory: pytest.TempPathFactory) -> Tiny:
     """The crate."""
     return Tiny(tmp_path_factory.mktemp("tiny"))
-
-
-def test_kit_tells_the_stamps(tiny: Tiny) -> None:
-    assert [*stamps(tiny.crate.parent.parent)] == ["tiny"]
 
 
 @pytest.mark.parametrize("one, other, is_apart", [
@@ -472,6 +483,17 @@ def test_contracts_below_count(tmp_path: Path) -> None:
     assert total() == before
     source.write_text(LIBRARY.replace("result ≡ x + 1", "result ≡ 1 + x"), encoding="utf-8")
     assert total() != before
+
+
+def test_libraries_below_are_proved_first(tmp_path: Path) -> None:
+    write_edits(tmp_path, {})
+    (tmp_path / "crates.txt").write_text("tiny:\nabove: tiny\n", encoding="utf-8")
+    above = tmp_path / "crates/above"
+    files = {"src/lib.rt": ABOVE, "wrong-bodies/adds_one_once.edit": "file: src/lib.rt\nold: next + 1\nnew: next\n"}
+    for path, text in files.items():
+        (above / path).parent.mkdir(parents=True)
+        (above / path).write_text(text, encoding="utf-8")
+    assert tried(runs(tmp_path, "--all")) == ["above/adds_one_once"]
 
 
 def test_unlisted_crate_is_told(tmp_path: Path) -> None:

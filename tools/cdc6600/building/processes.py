@@ -7,12 +7,14 @@ import threading
 from contextlib import contextmanager
 from dataclasses import dataclass
 from pathlib import Path
-from typing import Iterator, TextIO
+from typing import Any, Callable, Iterator
 
 from cdc6600.crates.table import Unreadable
 
 # The signals that end a run.
 ENDING = (signal.SIGTERM, signal.SIGHUP, signal.SIGINT)
+PIPED: dict[str, Any] = {"stdin": subprocess.DEVNULL, "stdout": subprocess.PIPE, "stderr": subprocess.STDOUT,
+                         "encoding": "utf-8", "errors": "replace"}
 
 
 @dataclass
@@ -29,20 +31,21 @@ class Running:
     begins."""
 
     def __init__(self) -> None:
-        self.lock, self.children, self.is_ended = threading.Lock(), set[subprocess.Popen[bytes]](), False
+        self.lock, self.children, self.is_ended = threading.Lock(), set[subprocess.Popen[str]](), False
 
-    def start(self, words: list[str], folder: Path, said: TextIO) -> subprocess.Popen[bytes]:
+    def start(self, words: list[str], folder: Path) -> subprocess.Popen[str]:
         with self.lock:
             if self.is_ended:
                 raise Unreadable("the run was ended")
-            child = subprocess.Popen(words, cwd=folder, start_new_session=True, stdin=subprocess.DEVNULL, stdout=said,
-                                     stderr=subprocess.STDOUT)
+            child = subprocess.Popen(words, cwd=folder, start_new_session=True, **PIPED)
             self.children.add(child)
             return child
 
-    def forget(self, child: subprocess.Popen[bytes]) -> None:
+    def forget(self, child: subprocess.Popen[str]) -> None:
         with self.lock:
             self.children.discard(child)
+        if child.stdout:
+            child.stdout.close()
 
     def end(self) -> None:
         with self.lock:
@@ -71,27 +74,28 @@ def put_off() -> Iterator[None]:
             signal.raise_signal(caught[0])
 
 
-def run(words: list[str], folder: Path) -> Ran:
-    """Runs a command to its end, with what it says in the folder's file `said`."""
-    with open(folder / "said", "w+", errors="replace", encoding="utf-8") as said:
-        child = None
-        try:
-            # A signal between the start of the command and this assignment would leave the command running.
-            with put_off():
-                child = RUNNING.start(words, folder, said)
-            _, ended, used = os.wait4(child.pid, 0)
-            child.returncode = os.waitstatus_to_exitcode(ended)
-        except BaseException:
-            # A signal ends this process. The command ends first, so that it writes nothing more into the folder.
-            RUNNING.end()
-            if child:
-                child.wait()
-            raise
-        finally:
-            if child:
-                RUNNING.forget(child)
-        said.seek(0)
-        return Ran(child.returncode, said.read(), used.ru_utime + used.ru_stime)
+def run(words: list[str], folder: Path, heed: Callable[[str], None] = lambda _: None) -> Ran:
+    """Runs a command in a folder to its end. `heed` is called with each line that it says."""
+    child, said = None, list[str]()
+    try:
+        # A signal between the start of the command and this assignment would leave the command running.
+        with put_off():
+            child = RUNNING.start(words, folder)
+        for line in child.stdout or ():
+            said.append(line)
+            heed(line)
+        _, ended, used = os.wait4(child.pid, 0)
+        child.returncode = os.waitstatus_to_exitcode(ended)
+    except BaseException:
+        # A signal ends this process. The command ends first, so that it writes nothing more into the folder.
+        RUNNING.end()
+        if child:
+            child.wait()
+        raise
+    finally:
+        if child:
+            RUNNING.forget(child)
+    return Ran(child.returncode, "".join(said), used.ru_utime + used.ru_stime)
 
 
 def stop_all() -> None:

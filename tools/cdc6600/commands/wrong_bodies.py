@@ -8,7 +8,6 @@
     tools/wrong-bodies --anew           ignores that table and the verdicts of this user's earlier runs
     tools/wrong-bodies --prover         asks the prover alone, and runs no body
     tools/wrong-bodies --once           asks the prover alone, by one check, as the gate does
-    tools/wrong-bodies --after-rt-ci    uses the libraries that `rt ci` has just left in this checkout
 
 A wrong body is an edit in crates/NAME/wrong-bodies/, crates/NAME/nightly-bodies/ or crates/NAME/must-fail/. `rt ci`
 tries the promised bodies of the last folder by checks of its own. This command tries the bodies of the last two folders
@@ -36,6 +35,7 @@ from pathlib import Path
 from typing import Iterable, Sequence
 
 from cdc6600.building import host
+from cdc6600.building.building import Unproved
 from cdc6600.crates.crate import EDITS
 from cdc6600.crates.kit import logic
 from cdc6600.crates.table import Table, Unreadable
@@ -55,8 +55,6 @@ def arguments() -> argparse.Namespace:
     parser.add_argument("--anew", action="store_true", help="ignore kept verdicts")
     parser.add_argument("--prover", action="store_true", help="ask the prover alone")
     parser.add_argument("--once", action="store_true", help="ask the prover alone, by one check: a third of the time")
-    parser.add_argument("--after-rt-ci", action="store_true",
-                        help="`rt ci` has just ended well here: take over its libraries")
     parser.add_argument("--at-once", type=int, default=host.places(), metavar="N",
                         help="how many checks run side by side (default: as the machine allows)")
     parser.add_argument("--root", type=Path, default=ROOT, help=argparse.SUPPRESS)
@@ -120,16 +118,14 @@ def print_unsure(crates: Iterable[Crate]) -> int:
     return len(unsure)
 
 
-def try_all(table: Table, crates: Sequence[Crate], given: argparse.Namespace) -> Tries:
-    """Tries what is left to try, and reports each crate once that is done. Returns the run."""
-    by_name = {crate.name: crate for crate in crates}
+def try_all(table: Table, crates: Sequence[Crate], given: argparse.Namespace) -> None:
+    """Tries what is left to try, and reports each crate once that is done."""
     with tempfile.TemporaryDirectory(prefix="wrong-bodies-") as room:
-        tries = Tries(table, crates, room, given.at_once, given.after_rt_ci, given.once)
+        tries = Tries(table, crates, room, given.at_once, given.once)
         for crate in crates:
             if not crate.groups:
                 report(crate)
-        tries.run(lambda name: report(by_name[name]))
-    return tries
+        tries.run(report)
 
 
 def write_table(root: Path, crates: Iterable[Crate], names: Sequence[str]) -> None:
@@ -150,7 +146,7 @@ def work() -> int:
     number = logic()
     crates = [read_crate(table, it, Kept(table, it, number, rows, given.anew, given.once), given)
               for it in chosen(table, given.crates)]
-    tries = try_all(table, crates, given)
+    try_all(table, crates, given)
     if given.is_run:
         run_unsure(table, crates, given.at_once)
     unsure = print_unsure(crates)
@@ -158,7 +154,6 @@ def work() -> int:
         crate.settle()
         if crate.groups:
             print(f"{crate.name}: {len(crate.groups)} groups, {crate.seconds:.0f} seconds of processor time")
-    print(f"libraries: {len(tries.libraries)}, {tries.library_seconds:.0f} seconds of processor time")
     rested, bad = sum(len(crate.rested) for crate in crates), sum(len(not_refused(crate)) for crate in crates)
     total = rested + sum(len(crate.bodies) + len(crate.faults) for crate in crates)
     if given.write:
@@ -175,6 +170,6 @@ def main() -> int:
         signal.signal(signals, lambda *_: sys.exit(1))
     try:
         return work()
-    except Unreadable as reason:
+    except (Unreadable, Unproved) as reason:
         print(f"tools/wrong-bodies: {reason}")
         return 1

@@ -22,10 +22,8 @@ from .verdicts import is_of
 from .written import without
 
 FILES = {"Answers.antt", "Invariants.antt"}
-# The most copies for one check, and about how many seconds the right bodies of these functions may take to prove. A
-# check of more keeps one processor busy at the end, while the others have nothing to do.
-TOGETHER = 24
-SECONDS = 70
+# The most copies for one check. A check of more keeps one processor busy at the end, while the others are idle.
+TOGETHER = 20
 
 
 @dataclass(frozen=True)
@@ -120,11 +118,10 @@ def copied_proofs(item: Item, suffix: str, folders: Sequence[Path], folder: Path
             yield str(copied_at.relative_to(folder)), path, text
 
 
-def copied(bodies: Sequence[Body], source: Sources, folder: Path, pace: float = 1) -> list[list[Copy]]:
-    """The copies, in lists for one check each, that are about as long. `pace` is how many seconds a function of the
-    crate takes to prove."""
+def copied(bodies: Sequence[Body], source: Sources, folder: Path) -> list[list[Copy]]:
+    """The copies, in lists for one check each, that are about as long."""
     copies = [copy_of(body, f"wrong_{number}", source, folder) for number, body in enumerate(bodies)]
-    checks = -(-len(copies) // max(1, min(TOGETHER, int(SECONDS / pace))))
+    checks = -(-len(copies) // TOGETHER)
     return [copies[at::checks] for at in range(checks)]
 
 

@@ -2,9 +2,8 @@
 
 Each group is checked once, and the bodies that this check refuses once more (second.py), unless one check is to do.
 
-Libraries that `rt ci` has just proved are taken over, and others are built. The groups of a crate run side by side,
-each in a workspace of its own. What a check doesn't change it assumes (assumed.py), so no group waits for another's
-work.
+The libraries below are those that `rt ci` has left, or are proved first. Groups run side by side, each in a workspace
+of its own. What a check doesn't change it assumes (assumed.py), so no group waits for another's work.
 """
 
 import tempfile
@@ -12,12 +11,11 @@ import threading
 from argparse import Namespace
 from concurrent.futures import FIRST_COMPLETED, Future, ThreadPoolExecutor, wait
 from dataclasses import dataclass, field
-from functools import partial
 from pathlib import Path
-from typing import Callable, Container, Mapping, Sequence
+from typing import Callable, Mapping, Sequence
 
 from cdc6600.building import host
-from cdc6600.building.forecast import measured
+from cdc6600.building.library import left_by_rt_ci, proved
 from cdc6600.building.processes import Ran, stop_all
 from cdc6600.crates.crate import OF_THE_NIGHT
 from cdc6600.crates.source import Item, Sources, module_of
@@ -28,16 +26,10 @@ from .copies import Copy, beside, can_stand_beside, copied, written_folders
 from .edits import LET_THROUGH, Body, merged, read_bodies
 from .groups import grouped
 from .kept import Kept
-from .libraries import left_by_rt_ci
 from .opening import Opening
 from .second import after_one, again, copies_again, in_places_again, settled
 from .verdicts import CALLS, CANT_TELL, NOT_REFUSED, Outcome, Verdict, outcome_of
 from .workspaces import Workspace
-
-# The seconds that a function takes to prove in a crate of which it isn't known.
-PACE = 3
-# What is done at once: the building of a library, by its name, or the check of a group, by its crate and number.
-Task = tuple[str, str | int]
 
 
 @dataclass
@@ -80,7 +72,6 @@ class Crate:
     verdicts: dict[str, Verdict] = field(default_factory=dict)  # by the name of the body
     faults: list[str] = field(default_factory=list)
     seconds: float = 0.0
-    pace: float = 1.0  # the seconds that a function takes to prove, about
     idle: list[Workspace] = field(default_factory=list)  # the workspaces in which no group is being checked
     lock: threading.Lock = field(default_factory=threading.Lock)
 
@@ -119,17 +110,16 @@ def read_crate(table: Table, name: str, kept: Kept, given: Namespace) -> Crate:
             known = Verdict(CANT_TELL, "its contract lets it through")
         if known:
             crate.verdicts[body.name] = known
-    crate.pace = measured(table.root).get(name, 0) / max(len(source.functions()), 1) or PACE
     left = [body for body in crate.bodies if body.name not in crate.verdicts]
-    crate.groups = groups_of(left, source, table.folder(name), crate.pace)
+    crate.groups = groups_of(left, source, table.folder(name))
     return crate
 
 
-def groups_of(bodies: Sequence[Body], source: Sources, folder: Path, pace: float = 1) -> list[Group]:
+def groups_of(bodies: Sequence[Body], source: Sources, folder: Path) -> list[Group]:
     """The groups of bodies: copies of those that can stand beside the right ones, and the others in their places."""
     beside_right = [body for body in bodies if can_stand_beside(body, source, folder)]
     others = [body for body in bodies if body not in beside_right]
-    copies = [Group([copy.body for copy in part], part) for part in copied(beside_right, source, folder, pace)]
+    copies = [Group([copy.body for copy in part], part) for part in copied(beside_right, source, folder)]
     return [*copies, *map(Group, grouped(others, source))]
 
 
@@ -152,49 +142,16 @@ def path_of(item: Item, source: Sources) -> str | None:
 
 
 class Tries:
-    """The run: the libraries that are built, and the tasks that are left, each with the names of those it waits for."""
+    """The run: the libraries that the crates stand on, and the groups that are left."""
 
-    def __init__(self, table: Table, crates: Sequence[Crate], room: str, at_once: int, is_after_rt_ci: bool,
+    def __init__(self, table: Table, crates: Sequence[Crate], room: str, at_once: int,
                  is_once: bool = False) -> None:
         self.table, self.room, self.at_once, self.is_once = table, Path(room), at_once, is_once
-        self.libraries, self.broken, self.library_seconds = dict[str, Workspace](), dict[str, str](), 0.0
-        self.tasks: dict[Task, tuple[list[Task], Callable[[], None]]] = {}
-        tried = [crate for crate in crates if crate.groups]
-        # The checks of crates with the dearest functions are the longest, and come first.
-        self.sizes = {crate.name: crate.pace for crate in tried}
-        self.groups: dict[str, set[Task]] = {it.name: {(it.name, n) for n in range(len(it.groups))} for it in tried}
-        needed = {name for crate in tried for name in table.below(crate.name)}
-        self.left = left_by_rt_ci(table) if needed and is_after_rt_ci else {}
-        for name in (name for name in table.lines if name in needed):
-            self.tasks["library", name] = ([("library", it) for it in table.below(name)], partial(self.build, name))
-        for crate in tried:
-            self.plan(crate, crate.name in needed and crate.name not in self.left)
-
-    def plan(self, crate: Crate, is_built: bool) -> None:
-        below = [*self.table.below(crate.name), *[crate.name] * is_built]
-        waits: list[Task] = [("library", it) for it in below]
-        for number, group in enumerate(crate.groups):
-            self.tasks[crate.name, number] = (waits, partial(self.judge, crate, group))
-
-    def build(self, name: str) -> None:
-        """Gets a library: the one that `rt ci` left, or one that is built over what the checkout's own checks kept of
-        it."""
-        lacking = next((it for it in self.table.below(name) if it in self.broken), None)
-        if lacking:
-            self.broken[name] = self.broken[lacking]
-            return
-        try:
-            workspace = Workspace(self.table, tempfile.mkdtemp(prefix=f"{name}-", dir=self.room), name, self.libraries)
-            if name in self.left:
-                workspace.take_library(self.table.folder(name), self.left[name])
-            else:
-                workspace.take_kept(self.table.folder(name), "incremental")
-                if (self.table.folder(name) / "out/rlib/stamp").is_file():
-                    workspace.take_kept(self.table.folder(name), "rlib")
-                self.library_seconds += workspace.build_library()
-            self.libraries[name] = workspace
-        except (Unreadable, OSError) as fault:
-            self.broken[name] = str(fault)
+        # The checks of crates that stand on many others are the longest, and come first.
+        self.crates = sorted(crates, key=lambda it: -len(table.below(it.name)))
+        needed = {name for crate in crates if crate.groups for name in table.below(crate.name)}
+        below = [name for name in table.lines if name in needed]
+        self.libraries = left_by_rt_ci(table, below) or (proved(table, below, self.room) if below else {})
 
     def workspace_of(self, crate: Crate) -> Workspace:
         """A workspace for a group's check: one that an earlier group has left, or a new one."""
@@ -206,10 +163,7 @@ class Tries:
 
     def judge(self, crate: Crate, group: Group) -> None:
         """Checks a group and tells each body's verdict."""
-        lacking = next((it for it in [*self.table.below(crate.name), crate.name] if it in self.broken), None)
         try:
-            if lacking:
-                raise Unreadable(self.broken[lacking])
             workspace = self.workspace_of(crate)
             self.judge_in(workspace, crate, group)
             with crate.lock:
@@ -297,38 +251,22 @@ class Tries:
         read = {path: text for path, text in changed.items() if text is not None}
         return group.outcomes(ran, crate.name, {**crate.source.texts, **proofs, **read})
 
-    def behind(self, key: Task) -> tuple[bool, float, int]:
-        """How much waits for a task: libraries that stand below many come first, and then the crates with the dearest
-        functions."""
-        kind, which = key
-        if isinstance(which, str):
-            above = [it for it in self.table.lines if which in self.table.below(it) and ("library", it) in self.tasks]
-            return True, len(above), len(self.table.below(which))
-        return False, self.sizes[kind], -which
-
-    def run(self, is_tried: Callable[[str], None]) -> None:
-        """Runs the tasks side by side, each once those that it waits for have ended and there is memory for it. It
-        hands out the name of each crate once all its groups are tried."""
-        left, done = sorted(self.tasks, key=self.behind, reverse=True), set[Task]()
-        busy: dict[Future[None], Task] = {}
+    def run(self, is_tried: Callable[[Crate], None]) -> None:
+        """Checks the groups side by side, each once there is memory for it. It hands out each crate once all its groups
+        are tried."""
+        left = [(crate, group) for crate in self.crates for group in crate.groups]
+        busy: dict[Future[None], Crate] = {}
         with ThreadPoolExecutor(self.at_once) as pool:
             try:
                 while left or busy:
-                    for key in self.ready(left, done, self.at_once - len(busy), not busy):
-                        left.remove(key)
-                        busy[pool.submit(self.tasks[key][1])] = key
+                    while left and len(busy) < self.at_once and (not busy or host.free_memory() >= host.NEEDED):
+                        crate, group = left.pop(0)
+                        busy[pool.submit(self.judge, crate, group)] = crate
                     for ended in wait(busy, timeout=10, return_when=FIRST_COMPLETED).done:
-                        key = busy.pop(ended)
+                        crate = busy.pop(ended)
                         ended.result()
-                        done.add(key)
-                        if self.groups.get(key[0], {key}) <= done and key[0] != "library":
-                            is_tried(key[0])
+                        if all(it is not crate for it in [*busy.values(), *(it for it, _ in left)]):
+                            is_tried(crate)
             except BaseException:
                 stop_all()
                 raise
-
-    def ready(self, left: Sequence[Task], done: Container[Task], room: int, is_first: bool) -> list[Task]:
-        """The tasks to start now: as many as there is room for, and one at least where nothing runs."""
-        found = [key for key in left if all(it in done for it in self.tasks[key][0])][:room]
-        memory = host.free_memory() // host.NEEDED
-        return found[: max(memory, 1 if is_first else 0)]

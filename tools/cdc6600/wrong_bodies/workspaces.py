@@ -1,12 +1,8 @@
-"""Workspaces outside the checkout, in which libraries are built and wrong bodies are checked by `rt`.
+"""Workspaces outside the checkout, in which wrong bodies are checked.
 
-Each check has one of its own, so that none of them waits for another, and the checkout is never written to. The
-libraries below are built once, each in its workspace, and given to those above by links to their files: `rt` finds by
-its own stamp that they are up to date, wherever they lie.
+Each check has one of its own, so that none of them waits for another, and the checkout is never written to.
 """
 
-import fcntl
-import os
 import shutil
 from dataclasses import replace
 from pathlib import Path
@@ -14,7 +10,7 @@ from typing import Iterable, Mapping
 
 from cdc6600.building.processes import Ran, run
 from cdc6600.crates.kit import checker
-from cdc6600.crates.table import Table, Unreadable
+from cdc6600.crates.table import Table
 
 from .assumed import as_proved
 
@@ -22,51 +18,14 @@ PARTS = ("src", "specs", "proofs")
 
 
 class Workspace:
-    """A workspace that has one crate and what it stands on."""
+    """A workspace that has one crate, over the libraries on which it stands."""
 
-    def __init__(self, table: Table, room: str | Path, crate: str, libraries: Mapping[str, "Workspace"]) -> None:
-        self.table, self.crate, self.room = table, crate, Path(room)
-        self.folder = self.room / "crates" / crate
-        names = [*table.below(crate), crate]
-        for name in names:
-            for part in PARTS:
-                if (table.folder(name) / part).is_dir():
-                    shutil.copytree(table.folder(name) / part, self.room / "crates" / name / part)
-        for name in names[:-1]:
-            shutil.copytree(libraries[name].rlib(), self.room / "crates" / name / "out/rlib", copy_function=os.link)
-        table.write(self.room, names)
-        if (table.root / "HANDLES").is_file():
-            shutil.copyfile(table.root / "HANDLES", self.room / "HANDLES")
-        (self.folder / "out").mkdir(exist_ok=True)
-
-    def rlib(self) -> Path:
-        return self.folder / "out/rlib"
-
-    def take_kept(self, folder: Path, part: str) -> None:
-        """Takes what earlier checks of the crate kept, from the checkout or another workspace, once none is at work
-        there."""
-        held = os.open(folder, os.O_RDONLY)
-        try:
-            fcntl.flock(held, fcntl.LOCK_SH)
-            if (folder / "out" / part).is_dir():
-                shutil.copytree(folder / "out" / part, self.folder / "out" / part, dirs_exist_ok=True)
-        finally:
-            os.close(held)
-
-    def take_library(self, folder: Path, stamp: str) -> None:
-        """Takes the library that `rt ci` left there, and gives it the stamp by which `rt` sees that it is up to
-        date."""
-        self.take_kept(folder, "rlib")
-        (self.rlib() / "stamp").write_text(stamp, encoding="utf-8")
-
-    def build_library(self) -> float:
-        """Proves and builds the crate as a library, or finds it built. Returns the seconds that it took."""
-        ran = run(["rt", "lib", "--jobs", "1"], self.folder)
-        if ran.status or not (self.rlib() / "stamp").is_file():
-            errors = [line for line in ran.said.split("\n") if "error" in line or "not proved" in line]
-            last = (errors or ran.said.strip().split("\n"))[-1][:200]
-            raise Unreadable(f"{self.crate}: the library as it stands isn't proved, so nothing was tried: {last}")
-        return ran.seconds
+    def __init__(self, table: Table, room: str | Path, crate: str, libraries: Mapping[str, Path]) -> None:
+        self.table, self.crate, self.libraries = table, crate, libraries
+        self.folder = Path(room)
+        for part in PARTS:
+            if (table.folder(crate) / part).is_dir():
+                shutil.copytree(table.folder(crate) / part, self.folder / part)
 
     def check(self, texts: Mapping[str, str | None], paths: Iterable[str]) -> Ran:
         """Checks the crate with these texts: the functions of these paths, or all where there are none. A path without
@@ -85,13 +44,13 @@ class Workspace:
     def words(self) -> list[str]:
         """The words by which the checker reads the crate over the libraries below it. It keeps nothing: where it does,
         it checks a few functions at a time, each time in a process that loads the libraries anew."""
-        kit, below = checker().parent.parent, self.table.below(self.crate)
-        made = {name: self.room / "crates" / name / "out/rlib" for name in below}
+        kit = checker().parent.parent
+        made = {name: self.libraries[name] for name in self.table.below(self.crate)}
         top = "src/main.rt" if (self.folder / "src/main.rt").is_file() else "src/lib.rt"
         found = ["--crate-name", self.crate, top]
         for it in ["std", *self.table.uses[self.crate]]:
-            found += ["--extern", f"{it}={made.get(it, f'{kit}/rlibs')}/{it}.rlib"]
-        for folder in [*made.values(), f"{kit}/rlibs"]:
+            found += ["--extern", f"{it}={made.get(it, kit / f'rlibs/{it}.rlib')}"]
+        for folder in [*(file.parent for file in made.values()), kit / "rlibs"]:
             found += ["-L", f"dependency={folder}"]
         if "staticlib" in self.table.lines[self.crate].partition(":")[0].split():
             found += ["--crate-type", "staticlib"]
