@@ -29,8 +29,7 @@ from cdc6600.wrong_bodies.edits import LET_THROUGH, UNSURE as NOT_SURE, merged, 
 from cdc6600.wrong_bodies.groups import clash, grouped, reached
 from cdc6600.wrong_bodies.kept import ROWS, read_rows, sum_of_contracts, sum_of_crate
 from cdc6600.wrong_bodies.opening import Opening, opened
-from cdc6600.wrong_bodies.second import after_one
-from cdc6600.wrong_bodies.verdicts import CANT_TELL, REFUSED as IS_REFUSED, is_of, outcome_of
+from cdc6600.wrong_bodies.verdicts import is_of, outcome_of
 from cdc6600.wrong_bodies.written import resting, without
 
 Edit = Sequence[str]
@@ -152,15 +151,16 @@ def text_of(path: str) -> str:
 LIBRARY, PROOF = text_of("src/lib.rt"), text_of("proofs/two_more/Answers.antt")
 
 
-def write_edits(root: Path, edits: dict[str, Edit], folder: str = "wrong-bodies") -> Path:
+def write_edits(root: Path, edits: dict[str, Edit]) -> Path:
     """Writes edits into the workspace, which is made if it isn't there; its folder."""
     for path, text in TINY.items():
         (root / path).parent.mkdir(parents=True, exist_ok=True)
         (root / path).write_text(text, encoding="utf-8")
-    (root / CRATE / folder).mkdir(exist_ok=True)
+    (root / CRATE / "wrong-bodies").mkdir(exist_ok=True)
     for name, edit in edits.items():
         lines = [f"old: {old}\nnew: {new}\n" for old, new in zip(edit[::2], edit[1::2])]
-        (root / CRATE / folder / f"{name}.edit").write_text("file: src/lib.rt\n" + "".join(lines), encoding="utf-8")
+        text = "file: src/lib.rt\n" + "".join(lines)
+        (root / CRATE / f"wrong-bodies/{name}.edit").write_text(text, encoding="utf-8")
     return root
 
 
@@ -357,16 +357,6 @@ def test_note_at_an_attribute_is_of_its_function(tiny: Tiny) -> None:
     assert found.goals[0].contract() == ["returns"]
 
 
-@pytest.mark.parametrize("name, function, goal, verdict", [
-    ("adds_two", "plus_one", "", IS_REFUSED), ("adds_one_once", "two_more", "returns", CANT_TELL),
-    ("none_is_double", "double", "returns-clause-is", CANT_TELL),
-])
-def test_one_check_tells_of_what_search_proves(tiny: Tiny, name: str, function: str, goal: str, verdict: str) -> None:
-    unfit = f"./proofs/{function}/Answers.antt:1:2: error: `{goal}`: the two types differ"
-    said = [unfit, f"fn tiny::{function}: not proved"] if goal else [SEARCHED]
-    assert after_one(tiny.bodies[name], tiny.outcome(name, *said, END), tiny.crate).kind == verdict
-
-
 def test_what_rests_on_a_step_is_found(tiny: Tiny) -> None:
     text = "step : ℕ\nstep = 0\n\nother : ℕ\nother = step\n\npub returns : goal.returns\nreturns c = other\n"
     assert resting(text, "step") == ["other", "returns"]
@@ -435,16 +425,6 @@ def test_what_was_tried_is_kept(tmp_path: Path) -> None:
     assert [tried(runs(tmp_path)), tried(runs(tmp_path, "--anew", "tiny"))] == [[], ["tiny/adds_two"]]
     add_to(tmp_path / CRATE / "specs/After.antt", "\npub once_more : ℕ → ℕ\nonce_more x = x\n")
     assert tried(runs(tmp_path)) == ["tiny/adds_two"]
-
-
-def test_bodies_of_the_night_are_left_out_while_nothing_changes(tmp_path: Path) -> None:
-    folders = {"adds_two": "wrong-bodies", "adds_three_in_all": "nightly-bodies", "larger_of_two": "must-fail"}
-    for name, folder in folders.items():
-        write_edits(tmp_path, {name: REFUSED[name]}, folder)
-    for word, count in (("", 1), ("--all", 3), ("", 1), ("tiny", 3)):
-        assert runs(tmp_path, *word.split()).lines[-2] == counted(count)
-    add_to(tmp_path / CRATE / "specs/After.antt", "\npub once_more : ℕ → ℕ\nonce_more x = x\n")
-    assert [runs(tmp_path).lines[-2] for _ in range(2)] == [counted(3), counted(1)]
 
 
 def test_table_is_rested_on(tmp_path: Path) -> None:

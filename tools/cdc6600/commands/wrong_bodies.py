@@ -1,18 +1,15 @@
 """Tries the wrong bodies of the crates: the prover has to refuse each at a goal of its own function's contract.
 
-    tools/wrong-bodies                  tries the gate's bodies that have no known verdict
-    tools/wrong-bodies CRATE..          tries all bodies of these crates
-    tools/wrong-bodies --all            tries all bodies of every crate
-    tools/wrong-bodies --write CRATE..  writes the verdicts on these crates, or on all, to
-                                        docs/proof/all-wrong-bodies.txt, if no body of the crate is let through
-    tools/wrong-bodies --anew           ignores that table and the verdicts of this user's earlier runs
-    tools/wrong-bodies --prover         asks the prover alone, and runs no body
-    tools/wrong-bodies --once           asks the prover alone, by one check, as the gate does
+    tools/wrong-bodies              tries the bodies that have no valid row in docs/proof/all-wrong-bodies.txt
+    tools/wrong-bodies CRATE..      tries those of these crates
+    tools/wrong-bodies --write      also writes the rows of each crate of which no body is let through
+    tools/wrong-bodies --all        ignores the rows
+    tools/wrong-bodies --anew       ignores the verdicts of this user's earlier runs
+    tools/wrong-bodies --prover     asks the prover alone, and runs no body
 
-A wrong body is an edit in crates/NAME/wrong-bodies/, crates/NAME/nightly-bodies/ or crates/NAME/must-fail/. `rt ci`
-tries the promised bodies of the last folder by checks of its own. This command tries the bodies of the last two folders
-only if all bodies are asked for, or if the crate has changed since its bodies were last tried on this machine.
-docs/work/CHANGING.md says how an edit is written. tools/cdc6600/wrong_bodies/kept.py names the inputs of a verdict.
+A wrong body is an edit in crates/NAME/wrong-bodies/ or crates/NAME/must-fail/. `rt ci` also tries the promised bodies
+of the last folder, by checks of its own. docs/work/CHANGING.md says how an edit is written.
+tools/cdc6600/wrong_bodies/kept.py names the inputs of a verdict.
 
 Bodies are tried in groups: tools/cdc6600/wrong_bodies/copies.py, and for the rest groups.py, say why one check can
 judge many. verdicts.py says what a check refuses, and second.py when that counts. tools/cdc6600/refuting runs the
@@ -50,19 +47,16 @@ from cdc6600.wrong_bodies.verdicts import CANT_TELL, NOT_REFUSED, Verdict
 def arguments() -> argparse.Namespace:
     parser = argparse.ArgumentParser(description=__doc__, formatter_class=argparse.RawDescriptionHelpFormatter)
     parser.add_argument("crates", nargs="*", metavar="CRATE", help="a crate of crates.txt; none: all of them")
-    parser.add_argument("--all", action="store_true", help="try the bodies of all folders")
-    parser.add_argument("--write", action="store_true", help=f"try all bodies, and write {ROWS}")
-    parser.add_argument("--anew", action="store_true", help="ignore kept verdicts")
+    parser.add_argument("--write", action="store_true", help=f"write {ROWS}")
+    parser.add_argument("--all", action="store_true", help="ignore its rows")
+    parser.add_argument("--anew", action="store_true", help="ignore the verdicts of earlier runs")
     parser.add_argument("--prover", action="store_true", help="ask the prover alone")
-    parser.add_argument("--once", action="store_true", help="ask the prover alone, by one check: a third of the time")
     parser.add_argument("--at-once", type=int, default=host.places(), metavar="N",
                         help="how many checks run side by side (default: as the machine allows)")
     parser.add_argument("--root", type=Path, default=ROOT, help=argparse.SUPPRESS)
     given = parser.parse_args()
-    given.is_run = not given.prover and not given.once
-    if given.write and not given.is_run:
-        parser.error("only verdicts by two checks and by runs are written")
-    given.all |= given.write
+    if given.write and given.prover:
+        parser.error("the verdicts of the prover alone aren't written")
     return given
 
 
@@ -121,44 +115,42 @@ def print_unsure(crates: Iterable[Crate]) -> int:
 def try_all(table: Table, crates: Sequence[Crate], given: argparse.Namespace) -> None:
     """Tries what is left to try, and reports each crate once that is done."""
     with tempfile.TemporaryDirectory(prefix="wrong-bodies-") as room:
-        tries = Tries(table, crates, room, given.at_once, given.once)
+        tries = Tries(table, crates, room, given.at_once)
         for crate in crates:
             if not crate.groups:
                 report(crate)
         tries.run(report)
 
 
-def write_table(root: Path, crates: Iterable[Crate], names: Sequence[str]) -> None:
+def write_table(root: Path, crates: Iterable[Crate]) -> None:
     """Replaces the rows of each crate of which no body is let through."""
     described = subprocess.run(["git", "-C", str(root), "describe", "--always", "--dirty"], capture_output=True,
                                text=True, check=False)
-    words = " ".join(["tools/wrong-bodies --write", *names])
+    words = " ".join(["tools/wrong-bodies", *sys.argv[1:]])
     found = [crate for crate in crates if not not_refused(crate)]
     tried = {f"{crate.name}/" for crate in found}
     rows = [row for row in read_rows(root).values() if f"{row.body.partition('/')[0]}/" not in tried]
-    rows += [crate.kept.row(body, crate.verdicts[body.name]) for crate in found for body in crate.bodies]
+    rows += [it.kept.row(body, it.verdicts[body.name]) for it in found for body in [*it.rested, *it.bodies]]
     write_rows(root, rows, f"`{words}` of {described.stdout.strip() or 'no commit'} on {date.today()}")
 
 
 def work() -> int:
     given = arguments()
-    table, rows = Table(given.root), {} if given.write or given.anew else read_rows(given.root)
+    table, rows = Table(given.root), {} if given.all else read_rows(given.root)
     number = logic()
-    crates = [read_crate(table, it, Kept(table, it, number, rows, given.anew, given.once), given)
+    crates = [read_crate(table, it, Kept(table, it, number, rows, given.anew), given)
               for it in chosen(table, given.crates)]
     try_all(table, crates, given)
-    if given.is_run:
+    if not given.prover:
         run_unsure(table, crates, given.at_once)
     unsure = print_unsure(crates)
     for crate in crates:
-        crate.settle()
         if crate.groups:
             print(f"{crate.name}: {len(crate.groups)} groups, {crate.seconds:.0f} seconds of processor time")
     rested, bad = sum(len(crate.rested) for crate in crates), sum(len(not_refused(crate)) for crate in crates)
     total = rested + sum(len(crate.bodies) + len(crate.faults) for crate in crates)
     if given.write:
-        write_table(given.root, crates, given.crates)
-    print(f"left to --all: {sum(len(crate.every) - len(crate.bodies) - len(crate.rested) for crate in crates)}")
+        write_table(given.root, crates)
     print(f"{rested} verdicts are those of {ROWS}")
     print(f"{total} wrong bodies, {bad} not refused, {unsure} can't tell")
     print(f"{max(total - bad - unsure, 0)} passed, {bad} failed")

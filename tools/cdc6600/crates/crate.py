@@ -13,12 +13,8 @@ from .source import Item, items_of
 from .table import Table
 
 DECLARED = re.compile(r'^pub (?:const |extern "C" )?(?:fn|struct|enum|trait) (\w+)', re.MULTILINE)
-# The folders of a crate that have edits. `rt ci` tries those in `must-fail` with checks of its own. The runner of wrong
-# bodies tries those of the last folder in each gate, and the others only if all are asked for or their crate has
-# changed.
-MUST_FAIL, NIGHTLY = "must-fail", "nightly-bodies"
-OF_THE_NIGHT = (MUST_FAIL, NIGHTLY)
-EDITS = (MUST_FAIL, "wrong-bodies", NIGHTLY)
+# The folders of a crate that have edits. `rt ci` also tries those in the first one.
+EDITS = ("must-fail", "wrong-bodies")
 
 
 class Source:

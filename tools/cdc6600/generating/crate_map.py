@@ -3,7 +3,7 @@
 import re
 from typing import Iterator
 
-from cdc6600.crates.crate import NIGHTLY, Crate, crates
+from cdc6600.crates.crate import Crate, crates
 from cdc6600.crates.table import FILE, Table
 from cdc6600.shared.program import ROOT
 
@@ -17,9 +17,8 @@ INTRODUCTION = """# The map of the crates
 crate's text is the comment that begins it: what it is, what its callers rely on, where its tests are, and where to
 begin reading. *Uses* leaves out the crates that another one of them uses. A table lists the modules, the files of
 definitions (`specs`) and those of lemmas (`proofs`) with the first sentence of each, or the names that a module
-exports. The proofs of single functions, which have the name of their function, aren't listed. The last rows name the
-wrong bodies, which [definitions.md](../proof/definitions.md) has by rule. The gate tries those in `nightly-bodies` only
-if their crate has changed.
+exports. The proofs of single functions, which have the name of their function, aren't listed. The last row names the
+wrong bodies, which [definitions.md](../proof/definitions.md) has by rule.
 
 - A definition belongs to the crate whose subject it is, even if only higher crates cite it: those of lists are in
   `instructions`, those of runs in `program_order`. The folder `specs/inner/` ties the fields of a crate's code to its
@@ -77,13 +76,10 @@ def written_in(crate: Crate, part: str) -> Iterator[tuple[str, str]]:
 
 
 def bodies_of(crate: Crate) -> Iterator[tuple[str, str]]:
-    """A row for the wrong bodies that the gate tries, and one for those that it tries only if the crate has changed."""
-    nightly = [file for file in crate.edits if file.parent.name == NIGHTLY]
-    tried = [file for file in crate.edits if file not in nightly]
-    for edits, where in (tried, ""), (nightly, f" in `{NIGHTLY}`"):
-        if edits:
-            bodies = "wrong body" if len(edits) == 1 else "wrong bodies"
-            yield f"{len(edits)} {bodies}{where}", ", ".join(sorted(f"`{file.stem}`" for file in edits))
+    """A row for the wrong bodies, if there are any."""
+    if edits := crate.edits:
+        bodies = "wrong body" if len(edits) == 1 else "wrong bodies"
+        yield f"{len(edits)} {bodies}", ", ".join(sorted(f"`{file.stem}`" for file in edits))
 
 
 def part_of(table: Table, crate: Crate) -> list[str]:

@@ -24,10 +24,9 @@ class Region(NamedTuple):
 
 @dataclass
 class Body:
-    """A wrong body: the edit's name and folder, what it changes, and whether it has to be tried alone."""
+    """A wrong body: the edit's name, its text, what it changes, and whether it has to be tried alone."""
 
     name: str
-    folder: str
     text: str
     regions: list[Region] = field(default_factory=list)
     # The functions that it changes, or whose body or contract names a constant that it changes.
@@ -67,7 +66,7 @@ def pairs_of(text: str, label: str) -> list[tuple[str, str, str]]:
 def read_body(file: Path, source: Sources) -> Body:
     """Reads an edit and applies it by itself, so that each of its texts is looked for as the one before left them."""
     label = f"{file.parent.parent.name}/{file.stem}"
-    body, texts = Body(file.stem, file.parent.name, file.read_text(encoding="utf-8")), dict[str, str]()
+    body, texts = Body(file.stem, file.read_text(encoding="utf-8")), dict[str, str]()
     body.notes = notes_of(body.text)
     for path, old, new in pairs_of(body.text, label):
         if path not in source.texts:

@@ -2,9 +2,8 @@
 
 A verdict is valid for a checksum of its inputs: the edit, the sources, definitions and proofs of the crate, and the
 contracts and definitions of the crates below. Comments and tests are no inputs. The table
-docs/proof/all-wrong-bodies.txt has verdicts by two checks and by runs, each with the number of the kit's logic. Each
-run also keeps its verdicts in the user's cache folder, so that an interrupted run can continue. Verdicts by one check
-are in other files there: they count only in runs by one check.
+docs/proof/all-wrong-bodies.txt has verdicts, each with the number of the kit's logic. Each run also keeps its verdicts
+in the user's cache folder, so that an interrupted run can continue.
 """
 
 import hashlib
@@ -116,15 +115,12 @@ def write(file: Path, text: str) -> None:
 class Kept:
     """The known verdicts on a crate's bodies: rows of the table, and verdicts of this user's earlier runs."""
 
-    def __init__(self, table: Table, crate: str, logic: str, rows: Mapping[str, Row], is_anew: bool,
-                 is_once: bool) -> None:
+    def __init__(self, table: Table, crate: str, logic: str, rows: Mapping[str, Row], is_anew: bool) -> None:
         folder = Path(os.environ.get("XDG_CACHE_HOME") or Path.home() / ".cache") / "dohikewa" / "wrong-bodies"
         self.crate, self.logic, self.rows, self.of_crate = crate, logic, rows, sum_of_crate(table, crate)
-        files = [folder / f"{crate}{ending}.json" for ending in ("-once", "")[not is_once :]]
-        self.file, self.text, self.found = files[0], folder / f"{crate}.text", dict[str, tuple[str, str]]()
-        for file in files if not is_anew else ():
-            with suppress(ValueError, OSError):
-                self.found |= dict(json.loads(file.read_text(encoding="utf-8")))
+        self.file, self.found = folder / f"{crate}.json", dict[str, tuple[str, str]]()
+        with suppress(ValueError, OSError):
+            self.found = {} if is_anew else json.loads(self.file.read_text(encoding="utf-8"))
 
     def row(self, body: Body, verdict: Verdict) -> Row:
         return Row(f"{self.crate}/{body.name}", self.logic, sum_of(self.of_crate, body.text), verdict)
@@ -143,17 +139,3 @@ class Kept:
         """Writes a verdict at once. If the file can't be written, a later run tries the body again."""
         self.found[str(self.row(body, Verdict("", "")))] = verdict.kind, verdict.words
         write(self.file, json.dumps(self.found, indent=0))
-
-    def total(self, bodies: Iterable[Body]) -> str:
-        """A sum of the crate and of its edits."""
-        return sum_of(self.of_crate, *(body.text for body in bodies))
-
-    def has_changed(self, bodies: Iterable[Body]) -> bool:
-        """Whether the crate or its edits have changed since the bodies were last tried; no if nothing was kept."""
-        with suppress(OSError):
-            return self.text.read_text(encoding="utf-8") != self.total(bodies)
-        return False
-
-    def settle(self, bodies: Iterable[Body]) -> None:
-        """Records that the bodies of this text were tried."""
-        write(self.text, self.total(bodies))

@@ -170,21 +170,6 @@ def opened_words(it: Again) -> str:
     return f" ({' and '.join([*opened_here, *without_them])})"
 
 
-def after_one(body: Body, first: Outcome, folder: Path) -> Verdict:
-    """The verdict on a body that one check refused, if there is to be no other. Search proves each goal of the right
-    body for which nothing is written, so one of these that it doesn't prove refuses the body. Of the others nobody can
-    tell."""
-    unsure = ""
-    for item, goals in zip(body.touched, first.goals):
-        _, written = written_for(item, folder)
-        clauses = set(map(clause_of, written))
-        found = [goal for goal in goals.contract() if not is_of_loop(goal, written) and clause_of(goal) not in clauses]
-        if found:
-            return Verdict(REFUSED, f"`{found[0]}` of {named(item)}")
-        unsure = unsure or "".join(f"`{goal}` of {named(item)}" for goal in goals.contract()[:1])
-    return Verdict(CANT_TELL, f"{unsure}: one check says only that what is written for the right body doesn't fit")
-
-
 def original(left_out: Iterable[tuple[str, str]], suffix: str) -> set[tuple[str, str]]:
     """The answers by the files of which a copy's are copies."""
     return {(path.replace(f"_{suffix}/", "/"), name) for path, name in left_out}

@@ -1,6 +1,6 @@
 """Tries the wrong bodies of crates: gets the libraries that they stand on, and checks group after group.
 
-Each group is checked once, and the bodies that this check refuses once more (second.py), unless one check is to do.
+Each group is checked once, and the bodies that this check refuses once more (second.py).
 
 The libraries below are those that `rt ci` has left, or are proved first. Groups run side by side, each in a workspace
 of its own. What a check doesn't change it assumes (assumed.py), so no group waits for another's work.
@@ -17,7 +17,6 @@ from typing import Callable, Mapping, Sequence
 from cdc6600.building import host
 from cdc6600.building.library import left_by_rt_ci, proved
 from cdc6600.building.processes import Ran, stop_all
-from cdc6600.crates.crate import OF_THE_NIGHT
 from cdc6600.crates.source import Item, Sources, module_of
 from cdc6600.crates.table import Table, Unreadable
 
@@ -27,7 +26,7 @@ from .edits import LET_THROUGH, Body, merged, read_bodies
 from .groups import grouped
 from .kept import Kept
 from .opening import Opening
-from .second import after_one, again, copies_again, in_places_again, settled
+from .second import again, copies_again, in_places_again, settled
 from .verdicts import CALLS, CANT_TELL, NOT_REFUSED, Outcome, Verdict, outcome_of
 from .workspaces import Workspace
 
@@ -58,14 +57,12 @@ class Group:
 class Crate:
     """A crate whose bodies are tried: what is left to try, and what came of it. Its groups may run side by side.
 
-    `rested` has the bodies with verdicts in the table, `bodies` the other bodies of this run, and `every` all bodies of
-    the crate."""
+    `rested` has the bodies with verdicts in the table, and `bodies` the other ones."""
 
     name: str
     source: Sources
     kept: Kept
     opening: Opening
-    every: list[Body] = field(default_factory=list)
     bodies: list[Body] = field(default_factory=list)
     rested: list[Body] = field(default_factory=list)
     groups: list[Group] = field(default_factory=list)
@@ -81,28 +78,20 @@ class Crate:
             if verdict.kind != NOT_REFUSED:
                 self.kept.keep(body, verdict)
 
-    def settle(self) -> None:
-        """Records that the bodies of this text were tried, if each was."""
-        if len(self.verdicts) == len(self.bodies) + len(self.rested):
-            self.kept.settle(self.every)
-
     def spent(self, seconds: float) -> None:
         with self.lock:
             self.seconds += seconds
 
 
 def read_crate(table: Table, name: str, kept: Kept, given: Namespace) -> Crate:
-    """Reads a crate's bodies and their known verdicts. Bodies of the night and of `must-fail` are left out, unless all
-    bodies are asked for or the crate has changed since they were last tried. Bodies that the contract lets through are
-    left out if no body is run."""
+    """Reads a crate's bodies and their known verdicts. Bodies that the contract lets through are left out if no body is
+    run."""
     source = Sources.read(table.folder(name))
     crate = Crate(name, source, kept, Opening(table, name))
-    crate.every, crate.faults = read_bodies(table.folder(name), source)
-    are_all = given.all or bool(given.crates) or kept.has_changed(crate.every)
-    for body in crate.every:
+    bodies, crate.faults = read_bodies(table.folder(name), source)
+    for body in bodies:
         known = kept.by_row(body)
-        is_left_out = body.folder in OF_THE_NIGHT and not are_all or LET_THROUGH in body.notes and not given.is_run
-        if not known and is_left_out:
+        if not known and LET_THROUGH in body.notes and given.prover:
             continue
         (crate.rested if known else crate.bodies).append(body)
         known = known or kept.by_run(body)
@@ -144,9 +133,8 @@ def path_of(item: Item, source: Sources) -> str | None:
 class Tries:
     """The run: the libraries that the crates stand on, and the groups that are left."""
 
-    def __init__(self, table: Table, crates: Sequence[Crate], room: str, at_once: int,
-                 is_once: bool = False) -> None:
-        self.table, self.room, self.at_once, self.is_once = table, Path(room), at_once, is_once
+    def __init__(self, table: Table, crates: Sequence[Crate], room: str, at_once: int) -> None:
+        self.table, self.room, self.at_once = table, Path(room), at_once
         # The checks of crates that stand on many others are the longest, and come first.
         self.crates = sorted(crates, key=lambda it: -len(table.below(it.name)))
         needed = {name for crate in crates if crate.groups for name in table.below(crate.name)}
@@ -178,10 +166,6 @@ class Tries:
         verdicts = {body.name: found[body.name].verdict for body in group.bodies}
         suffixes = {copy.body.name: copy.suffix for copy in group.copies}
         refused = [body for body in group.bodies if verdicts[body.name].refused]
-        if self.is_once:
-            folder = self.table.folder(crate.name)
-            verdicts |= {body.name: after_one(body, found[body.name], folder) for body in refused}
-            refused = []
         left = [body for body in refused if body.name not in apart]
         verdicts |= self.look_again(crate, left, found, suffixes, workspace)
         for body in (body for body in refused if body.name in apart):
