@@ -25,8 +25,7 @@ from cdc6600.refuting.choosing import Choice, with_bodies
 from cdc6600.shared.program import ROOT
 from cdc6600.wrong_bodies.assumed import as_proved, assumed
 from cdc6600.wrong_bodies.copies import beside, can_stand_beside, copied, copy_of
-from cdc6600.wrong_bodies.edits import LET_THROUGH, UNSURE as NOT_SURE, merged, read_bodies, read_body
-from cdc6600.wrong_bodies.groups import clash, grouped, reached
+from cdc6600.wrong_bodies.edits import LET_THROUGH, UNSURE as NOT_SURE, applied, read_bodies, read_body
 from cdc6600.wrong_bodies.kept import ROWS, read_rows, sum_of_contracts, sum_of_crate
 from cdc6600.wrong_bodies.opening import Opening, opened
 from cdc6600.wrong_bodies.verdicts import is_of, outcome_of
@@ -164,7 +163,7 @@ def write_edits(root: Path, edits: dict[str, Edit]) -> Path:
     return root
 
 
-# ---- what needs no prover: edits, groups, and the words of the check ----
+# ---- what needs no prover: edits, copies, and the words of the check ----
 
 
 class Tiny:
@@ -193,16 +192,6 @@ class Tiny:
 def tiny(tmp_path_factory: pytest.TempPathFactory) -> Tiny:
     """The crate."""
     return Tiny(tmp_path_factory.mktemp("tiny"))
-
-
-@pytest.mark.parametrize("one, other, is_apart", [
-    ("adds_two", "adds_three_in_all", True), ("adds_one_once", "adds_two", True),
-    ("calls_what_it_did_not", "adds_two", True), ("adds_two", "larger_of_two", False),
-])
-def test_caller_and_callee_are_apart(tiny: Tiny, one: str, other: str, is_apart: bool) -> None:
-    every = [*tiny.bodies.values()]
-    assert clash(tiny.bodies[one], tiny.bodies[other], reached(tiny.source, every)) == is_apart
-    assert not is_apart or not any({one, other} <= {it.name for it in group} for group in grouped(every, tiny.source))
 
 
 def test_copy_stands_beside(tiny: Tiny) -> None:
@@ -336,9 +325,8 @@ def test_assumed_contract_counts_as_proved(said: str, wanted: str) -> None:
     assert as_proved(said) == wanted
 
 
-def test_group_has_each_body(tiny: Tiny) -> None:
-    wanted = LIBRARY.replace("    x + 1\n", "    x + 2\n").replace("{ a } else { b }", "{ b } else { a }")
-    assert merged(tiny.source, [tiny.bodies["adds_two"], tiny.bodies["larger_of_two"]])["src/lib.rt"] == wanted
+def test_body_is_in_its_place(tiny: Tiny) -> None:
+    assert applied(tiny.bodies["adds_two"], tiny.source)["src/lib.rt"] == LIBRARY.replace("    x + 1\n", "    x + 2\n")
 
 
 @pytest.mark.parametrize("status, lines, goal", VERDICTS.values(), ids=VERDICTS)
@@ -435,8 +423,8 @@ def test_table_is_rested_on(tmp_path: Path) -> None:
     shutil.rmtree(tmp_path / "cache")
     ran = runs(tmp_path)
     assert tried(ran) == [] and ran.lines[-3:-1] == [f"2 verdicts are those of {ROWS}", counted(2)]
-    rows = read_rows(tmp_path)
-    assert [*rows] == names and rows[names[0]].verdict.words == "`returns` of plus_one"
+    rows = {row.body: verdict.words for row, verdict in read_rows(tmp_path).items()}
+    assert [*rows] == names and rows[names[0]] == "`returns` of plus_one"
     edit = "file: src/lib.rt\nold:     x + 1\nnew:     x + 3\n"
     (tmp_path / CRATE / "wrong-bodies/adds_two.edit").write_text(edit, encoding="utf-8")
     assert tried(runs(tmp_path)) == [names[0]]

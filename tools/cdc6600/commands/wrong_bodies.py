@@ -11,11 +11,11 @@ A wrong body is an edit in crates/NAME/wrong-bodies/ or crates/NAME/must-fail/. 
 of the last folder, by checks of its own. docs/work/CHANGING.md says how an edit is written.
 tools/cdc6600/wrong_bodies/kept.py names the inputs of a verdict.
 
-Bodies are tried in groups: tools/cdc6600/wrong_bodies/copies.py, and for the rest groups.py, say why one check can
-judge many. verdicts.py says what a check refuses, and second.py when that counts. tools/cdc6600/refuting runs the
-others: a body is refuted by a deck, a session or a test for which it does something else. Of one that isn't, it can't
-tell. Its edit gives the reason in a line `unsure: REASON`, and then it isn't run; else it counts as not refused. One
-that its contract lets through has a line `let through: REASON`; the prover isn't asked, and a run has to refute it.
+tools/cdc6600/wrong_bodies/copies.py says why one check can judge many bodies, verdicts.py what a check refuses, and
+second.py when that counts. tools/cdc6600/refuting runs the others: a body is refuted by a deck, a session or a test for
+which it does something else. Of one that isn't, it can't tell. Its edit gives the reason in a line `unsure: REASON`,
+and then it isn't run; else it counts as not refused. One that its contract lets through has a line `let through:
+REASON`; the prover isn't asked, and a run has to refute it.
 
 It prints a line for each body that was tried, with its verdict and the goal or the case, and a line for each body of
 which it can't tell. The last lines count the verdicts of the table, all bodies, bodies that aren't refused, and bodies
@@ -129,8 +129,8 @@ def write_table(root: Path, crates: Iterable[Crate]) -> None:
     words = " ".join(["tools/wrong-bodies", *sys.argv[1:]])
     found = [crate for crate in crates if not not_refused(crate)]
     tried = {f"{crate.name}/" for crate in found}
-    rows = [row for row in read_rows(root).values() if f"{row.body.partition('/')[0]}/" not in tried]
-    rows += [it.kept.row(body, it.verdicts[body.name]) for it in found for body in [*it.rested, *it.bodies]]
+    rows = {row: its for row, its in read_rows(root).items() if f"{row.body.partition('/')[0]}/" not in tried}
+    rows |= {it.kept.row(body): it.verdicts[body.name] for it in found for body in [*it.rested, *it.bodies]}
     write_rows(root, rows, f"`{words}` of {described.stdout.strip() or 'no commit'} on {date.today()}")
 
 

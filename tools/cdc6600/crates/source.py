@@ -17,12 +17,6 @@ CLAUSE = re.compile(r" *(?:requires|ensures) ([a-z_0-9]+) \{")
 CLAUSES = re.compile(r"^ *(?:requires|ensures)\b", re.MULTILINE)
 # A line of the comment above an item, or of its attributes.
 ABOVE = re.compile(r"\s*(?:///|#\[)")
-# What code calls with no call to be seen: by an operator, a `for`, a `?`, an index, a derived impl or the end of a
-# scope.
-UNSEEN_CALLS = frozenset(
-    "add sub mul div rem neg not bitand bitor bitxor shl shr add_assign sub_assign eq ne cmp partial_cmp lt le gt ge "
-    "next into_iter deref deref_mut index index_mut from into clone default fmt hash drop".split()
-)
 
 
 @dataclass(frozen=True)

@@ -1,12 +1,13 @@
 """The cases on which wrong bodies are run: a command of an executable with its input, and what it writes with the right
 bodies.
 
-Those of the program are the stored sessions and decks, the rows of the pages of refusals and requests, command lines
-that are refused, and drawn sessions. Runs by threads come first for a crate that only they use, and last for the
+Those of the program are the stored sessions and decks, the rows of the pages of refusals and requests, the commands of
+the page of commands, and drawn sessions. Runs by threads come first for a crate that only they use, and last for the
 others, since they take longest. Where such a run may have several logs, it may have another one of them than the right
 one. Those of a crate of tests are its tests.
 """
 
+import os
 import random
 import re
 import resource
@@ -19,7 +20,7 @@ from typing import IO, Iterable, Iterator
 
 from cdc6600.checks.drawn_sessions import drawn_session
 from cdc6600.shared.decks import PAGES, deck, decks, log_of, rows_of, sessions
-from cdc6600.shared.program import Program, followed
+from cdc6600.shared.program import ROOT, Program, followed
 
 from .choosing import STARTING
 
@@ -29,13 +30,8 @@ SECONDS, BYTES = 30, 1 << 24
 # The program without its proof takes minutes for these decks.
 LONG = {"endless"}
 DRAWN = 60
-# Command lines without input.
-USAGE = ((), ("nosuch",), ("run", "--budget", "0x1"), ("replay", "I0"), ("replay",), ("events", "more"), ("--version",))
-# Lines that are no events.
-NO_EVENTS = (
-    "read", "read boolean 1", "accept 4", "accept x", "accept 1 2", "return 9", "bank 32", "bank 1 2", "ask 8",
-    "ask 40 1", "ppread 110 5", "ppwrite 110", "ppwrite 8 1", "ppwrite 110 5 6", "issue ", "issue 1", "",
-)
+# How a command of a page begins, and the program in it.
+PROMPT, NAMED = "$ ", "./cdc6600"
 
 
 @dataclass(frozen=True)
@@ -70,12 +66,13 @@ def shown(line: bytes) -> str:
 
 @dataclass(frozen=True)
 class Case:
-    """A command of an executable by its words, its input, and a name. A test has no input, and fails or not. If the log
-    of a run depends on its threads, `logs` has the logs that it may have."""
+    """A command of an executable by its words, its input, and a name; or by a line for the shell. A test has no input,
+    and fails or not. If the log of a run depends on its threads, `logs` has the logs that it may have."""
 
     name: str
-    words: tuple[str, ...]
+    words: tuple[str, ...] = ()
     text: bytes = b""
+    line: str = ""
     is_test: bool = False
     logs: tuple[str, ...] = ()
 
@@ -90,18 +87,19 @@ class Case:
 
     def run(self, file: Path) -> Ran:
         """How an executable does it. One that runs on is killed."""
+        words = ["sh", "-c", self.line.replace(NAMED, f"'{file}'")] if self.line else [str(file), *self.words]
         with tempfile.TemporaryFile() as printed, tempfile.TemporaryFile() as told, tempfile.TemporaryFile() as given:
             given.write(self.text)
             given.seek(0)
             with STARTING:
                 process = subprocess.Popen(
-                    [file, *self.words], stdin=given, stdout=printed, stderr=told, preexec_fn=limit
+                    words, cwd=ROOT, stdin=given, stdout=printed, stderr=told, preexec_fn=limit, start_new_session=True
                 )
             with process:
                 try:
                     status = process.wait(SECONDS)
                 except subprocess.TimeoutExpired:
-                    process.kill()
+                    os.killpg(process.pid, signal.SIGKILL)
                     status = None
             return Ran(status, *(read(it) for it in (printed, told)))
 
@@ -154,13 +152,11 @@ def rows() -> Iterator[Case]:
     yield from requests("run", "--sequential")
 
 
-def refused() -> Iterator[Case]:
-    """Command lines that are refused, and lines of a schedule that are no events."""
-    for words in USAGE:
-        yield Case(f"the command line {' '.join(words)!r}", words)
-    text = deck("two-adds").text
-    for line in NO_EVENTS:
-        yield Case(f"the event {line!r}", ("events",), text + f"ask 40\n{line}\nend\n".encode())
+def commands() -> Iterator[Case]:
+    """The commands of the page of commands, many of which are refused."""
+    for number, line in enumerate((PAGES / "commands.md").read_text(encoding="utf-8").split("\n"), 1):
+        if line.startswith(PROMPT) and NAMED in line:
+            yield Case(f"the command in line {number} of {PAGES.name}/commands.md", line=line.removeprefix(PROMPT))
 
 
 def threaded() -> list[Case]:
@@ -195,7 +191,7 @@ class Cases:
 
 
 def of_program(file: Path) -> Cases:
-    return Cases(file, [*stored(), *rows(), *refused(), *drawn(file)], threaded())
+    return Cases(file, [*stored(), *rows(), *commands(), *drawn(file)], threaded())
 
 
 def of_tests(crate: str, file: Path) -> Cases:

@@ -6,7 +6,7 @@ says of a copy is said of that body alone, and any number of them can stand in o
 
 Some bodies can't stand so: a method of a trait's `impl`, which has no room for a second one; a function that calls
 itself, since its copy would call the right body; one whose proof has more files than answers and invariants; and an
-edit of more than one function, or of a constant. groups.py is for those.
+edit of more than one function, or of a constant. Each of those is tried in the place of the right one.
 """
 
 import re

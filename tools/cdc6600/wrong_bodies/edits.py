@@ -2,7 +2,7 @@
 
 from dataclasses import dataclass, field
 from pathlib import Path
-from typing import Iterable, NamedTuple
+from typing import NamedTuple
 
 from cdc6600.crates.crate import EDITS
 from cdc6600.crates.source import Item, Sources, items_of, names_in
@@ -123,12 +123,10 @@ def region_of(path: str, right: str, wrong: str) -> Region:
     return Region(path, start, len(before) - same, after[start : len(after) - same])
 
 
-def merged(source: Sources, bodies: Iterable[Body]) -> dict[str, str]:
-    """The texts that have every one of these bodies. Each region is in the places of the right text, and no two
-    overlap."""
+def applied(body: Body, source: Sources) -> dict[str, str]:
+    """The texts that have this body. Each of its regions is in the places of the right text, and no two overlap."""
     texts: dict[str, list[str]] = {}
-    regions = sorted((region for body in bodies for region in body.regions), key=lambda it: it[:3], reverse=True)
-    for path, start, end, lines in regions:
+    for path, start, end, lines in sorted(body.regions, key=lambda it: it[:3], reverse=True):
         whole = texts.setdefault(path, source.texts[path].split("\n"))
         whole[start:end] = lines
     return {path: "\n".join(lines) for path, lines in texts.items()}

@@ -7,14 +7,12 @@ in the user's cache folder, so that an interrupted run can continue.
 """
 
 import hashlib
-import json
 import os
 import re
 from contextlib import suppress
-from dataclasses import dataclass
 from functools import cache
 from pathlib import Path
-from typing import Iterable, Iterator, Mapping
+from typing import Iterable, Iterator, NamedTuple
 
 from cdc6600.crates.source import items_of
 from cdc6600.crates.table import Table, Unreadable
@@ -31,7 +29,7 @@ HEAD = """\
 # Increased when bodies are judged in another way, so that no older verdict is valid.
 RULES = 1
 COMMENT = re.compile(r"\s*(//|--|$)")
-ROW = re.compile(r"(\S+) (\w+) (\w+) ([^:]+): (.*)")
+ROW = re.compile(r"([^\s#]+) (\w+) (\w+) ([^:]+): (.*)")
 SUM = re.compile(r"sum (\w+), (.*)")
 
 
@@ -71,35 +69,46 @@ def sum_of_crate(table: Table, crate: str) -> str:
     return sum_of(str(RULES), *listed, *contracts, *text_of(table.folder(crate), PARTS, True))
 
 
-@dataclass(frozen=True)
-class Row:
-    """A verdict on a body, with the number of the kit's logic and the checksum of its inputs."""
+class Row(NamedTuple):
+    """For what a verdict is valid: a body, the number of the kit's logic, and the checksum of its inputs."""
 
     body: str
     logic: str
     total: str
-    verdict: Verdict
-
-    def __str__(self) -> str:
-        return f"{self.body} {self.logic} {self.total} {self.verdict.kind}: {self.verdict.words}\n"
 
 
-def read_rows(root: Path) -> dict[str, Row]:
-    """The rows of the table by their bodies; none if there is no table.
+Rows = dict[Row, Verdict]
 
-    Raises Unreadable if a line is no row, or the last one isn't the sum of the others and of the call."""
-    file = root / ROWS
-    lines = file.read_text(encoding="utf-8").splitlines() if file.is_file() else []
-    *lines, last = [line for line in lines if not line.startswith("#")] or [""]
-    found, ended = [ROW.fullmatch(line) for line in lines], SUM.fullmatch(last)
-    if last and not (ended and ended[1] == sum_of(*lines, ended[2]) and all(found)):
+
+def lines_of(rows: Rows) -> list[str]:
+    return sorted(f"{' '.join(row)} {verdict.kind}: {verdict.words}" for row, verdict in rows.items())
+
+
+def rows_in(file: Path) -> tuple[Rows, list[str]]:
+    """The rows of a file, and its other lines but for comments; none if there is no file."""
+    rows, others = Rows(), list[str]()
+    for line in file.read_text(encoding="utf-8").splitlines() if file.is_file() else []:
+        if found := ROW.fullmatch(line):
+            rows[Row(*found.groups()[:3])] = Verdict(found[4], found[5])
+        elif not line.startswith("#"):
+            others.append(line)
+    return rows, others
+
+
+def read_rows(root: Path) -> Rows:
+    """The rows of the table; none if there is no table.
+
+    Raises Unreadable unless its other line is the sum of the rows and of the call that wrote them."""
+    rows, others = rows_in(root / ROWS)
+    found = SUM.fullmatch(others[0]) if len(others) == 1 else None
+    if (rows or others) and not (found and found[1] == sum_of(*lines_of(rows), found[2])):
         raise Unreadable(f"{ROWS}: it isn't as `tools/wrong-bodies --write` has written it")
-    return {it[1]: Row(it[1], it[2], it[3], Verdict(it[4], it[5])) for it in found if it}
+    return rows
 
 
-def write_rows(root: Path, rows: Iterable[Row], call: str) -> None:
+def write_rows(root: Path, rows: Rows, call: str) -> None:
     """Writes the table, with the command that found its rows."""
-    lines = sorted(str(row).rstrip("\n") for row in rows)
+    lines = lines_of(rows)
     write(root / ROWS, HEAD + "".join(f"{line}\n" for line in [*lines, f"sum {sum_of(*lines, call)}, {call}"]))
 
 
@@ -115,27 +124,24 @@ def write(file: Path, text: str) -> None:
 class Kept:
     """The known verdicts on a crate's bodies: rows of the table, and verdicts of this user's earlier runs."""
 
-    def __init__(self, table: Table, crate: str, logic: str, rows: Mapping[str, Row], is_anew: bool) -> None:
+    def __init__(self, table: Table, crate: str, logic: str, rows: Rows, is_anew: bool) -> None:
         folder = Path(os.environ.get("XDG_CACHE_HOME") or Path.home() / ".cache") / "dohikewa" / "wrong-bodies"
         self.crate, self.logic, self.rows, self.of_crate = crate, logic, rows, sum_of_crate(table, crate)
-        self.file, self.found = folder / f"{crate}.json", dict[str, tuple[str, str]]()
-        with suppress(ValueError, OSError):
-            self.found = {} if is_anew else json.loads(self.file.read_text(encoding="utf-8"))
+        self.file = folder / f"{crate}.txt"
+        self.found = Rows() if is_anew else rows_in(self.file)[0]
 
-    def row(self, body: Body, verdict: Verdict) -> Row:
-        return Row(f"{self.crate}/{body.name}", self.logic, sum_of(self.of_crate, body.text), verdict)
+    def row(self, body: Body) -> Row:
+        return Row(f"{self.crate}/{body.name}", self.logic, sum_of(self.of_crate, body.text))
 
     def by_row(self, body: Body) -> Verdict | None:
         """The verdict of the table, if it is still valid."""
-        found = self.rows.get(f"{self.crate}/{body.name}")
-        return found.verdict if found and found == self.row(body, found.verdict) else None
+        return self.rows.get(self.row(body))
 
     def by_run(self, body: Body) -> Verdict | None:
         """The verdict of an earlier run of this user."""
-        found = self.found.get(str(self.row(body, Verdict("", ""))))
-        return Verdict(*found) if found else None
+        return self.found.get(self.row(body))
 
     def keep(self, body: Body, verdict: Verdict) -> None:
         """Writes a verdict at once. If the file can't be written, a later run tries the body again."""
-        self.found[str(self.row(body, Verdict("", "")))] = verdict.kind, verdict.words
-        write(self.file, json.dumps(self.found, indent=0))
+        self.found[self.row(body)] = verdict
+        write(self.file, "".join(f"{line}\n" for line in lines_of(self.found)))

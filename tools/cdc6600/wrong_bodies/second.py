@@ -175,31 +175,16 @@ def original(left_out: Iterable[tuple[str, str]], suffix: str) -> set[tuple[str,
     return {(path.replace(f"_{suffix}/", "/"), name) for path, name in left_out}
 
 
-def copies_again(them: Sequence[Again], suffixes: Sequence[str], source: Sources,
+def copies_again(pairs: Sequence[tuple[Again, Copy]], source: Sources,
                  folder: Path) -> tuple[list[Copy], dict[tuple[str, str, str], Copy]]:
     """The copies of the bodies that are tried once more, and the copy of the right body for each function that has
     written answers, by the function's key."""
     copies, rights = list[Copy](), dict[tuple[str, str, str], Copy]()
-    for it, suffix in zip(them, suffixes):
-        copies.append(copy_of(it.body, suffix, source, folder, it.paths[0], original(it.left_out[0], suffix)))
+    for it, copy in pairs:
+        left_out = original(it.left_out[0], copy.suffix)
+        copies.append(copy_of(it.body, copy.suffix, source, folder, it.paths[0], left_out))
         key = it.body.touched[0].key()
         if it.written[0] and key not in rights:
             body = right(it.body, f"the right body {len(rights)}", source)
             rights[key] = copy_of(body, f"right_{len(rights)}", source, folder, it.paths[0], it.answers[0])
     return copies, rights
-
-
-def in_places_again(them: Sequence[Again], source: Sources,
-                    folder: Path) -> tuple[list[Body], dict[str, str], list[Body], dict[str, str]]:
-    """The bodies that are tried once more in their places, the right bodies of those that have written answers, and the
-    texts of the proof files for both."""
-    bodies, rights, texts, rights_texts = list[Body](), list[Body](), dict[str, str](), dict[str, str]()
-    for it in them:
-        body, proofs = in_place(it, it.body, it.left_out, source, folder)
-        bodies.append(body)
-        texts |= proofs
-        if any(it.written):
-            body, proofs = in_place(it, right(it.body, it.body.name, source), it.answers, source, folder)
-            rights.append(body)
-            rights_texts |= proofs
-    return bodies, texts, rights, rights_texts

@@ -1,6 +1,7 @@
 """Tries the wrong bodies of crates: gets the libraries that they stand on, and checks group after group.
 
-Each group is checked once, and the bodies that this check refuses once more (second.py).
+A group is judged by one check: many copies beside the right bodies, or a body that can't stand so in the place of the
+right one. The bodies that this check refuses are checked once more (second.py).
 
 The libraries below are those that `rt ci` has left, or are proved first. Groups run side by side, each in a workspace
 of its own. What a check doesn't change it assumes (assumed.py), so no group waits for another's work.
@@ -22,26 +23,24 @@ from cdc6600.crates.table import Table, Unreadable
 
 from .assumed import assumed
 from .copies import Copy, beside, can_stand_beside, copied, written_folders
-from .edits import LET_THROUGH, Body, merged, read_bodies
-from .groups import grouped
+from .edits import LET_THROUGH, Body, applied, read_bodies
 from .kept import Kept
 from .opening import Opening
-from .second import again, copies_again, in_places_again, settled
-from .verdicts import CALLS, CANT_TELL, NOT_REFUSED, Outcome, Verdict, outcome_of
+from .second import again, copies_again, in_place, right, settled
+from .verdicts import CANT_TELL, NOT_REFUSED, Outcome, Verdict, outcome_of
 from .workspaces import Workspace
 
 
 @dataclass
 class Group:
-    """Wrong bodies that one check judges: in copies beside the right ones, or, where there are no copies, in their
-    places."""
+    """Bodies that one check judges: in copies beside the right ones, or, without copies, one in its place."""
 
     bodies: list[Body]
     copies: list[Copy] = field(default_factory=list)
-    proofs: dict[str, str] = field(default_factory=dict)  # files with answers left out, for bodies in their places
+    proofs: dict[str, str] = field(default_factory=dict)  # files with answers left out, for a body in its place
 
     def texts(self, source: Sources) -> dict[str, str]:
-        return beside(self.copies, source) if self.copies else merged(source, self.bodies) | self.proofs
+        return beside(self.copies, source) if self.copies else applied(self.bodies[0], source) | self.proofs
 
     def functions(self) -> list[Item]:
         return [item for it in self.copies or self.bodies for item in it.touched]
@@ -105,11 +104,10 @@ def read_crate(table: Table, name: str, kept: Kept, given: Namespace) -> Crate:
 
 
 def groups_of(bodies: Sequence[Body], source: Sources, folder: Path) -> list[Group]:
-    """The groups of bodies: copies of those that can stand beside the right ones, and the others in their places."""
+    """The groups of bodies: copies of those that can stand beside the right ones, and each other one in its place."""
     beside_right = [body for body in bodies if can_stand_beside(body, source, folder)]
-    others = [body for body in bodies if body not in beside_right]
     copies = [Group([copy.body for copy in part], part) for part in copied(beside_right, source, folder)]
-    return [*copies, *map(Group, grouped(others, source))]
+    return [*copies, *(Group([body]) for body in bodies if body not in beside_right)]
 
 
 def paths_of(group: Group, source: Sources) -> list[str]:
@@ -161,64 +159,59 @@ class Tries:
                 crate.tell(body, Verdict(NOT_REFUSED, f"it wasn't tried: {fault}"))
 
     def judge_in(self, workspace: Workspace, crate: Crate, group: Group) -> None:
-        """Checks a group, and the bodies that this refuses once more. Tells each body's verdict."""
-        found, apart = self.look(crate, group, workspace)
-        verdicts = {body.name: found[body.name].verdict for body in group.bodies}
-        suffixes = {copy.body.name: copy.suffix for copy in group.copies}
-        refused = [body for body in group.bodies if verdicts[body.name].refused]
-        left = [body for body in refused if body.name not in apart]
-        verdicts |= self.look_again(crate, left, found, suffixes, workspace)
-        for body in (body for body in refused if body.name in apart):
-            verdicts |= self.look_again(crate, [body], found, {}, workspace)
+        """Checks a group, and the bodies that this refuses once more. Tells each body's verdict.
+
+        A copy that isn't refused is tried again in its place, since the fault may be another's."""
+        found, beside_right = self.outcomes(crate, group, workspace), list[Copy]()
+        for copy in group.copies:
+            if found[copy.body.name].verdict.refused:
+                beside_right.append(copy)
+            else:
+                found |= self.outcomes(crate, Group([copy.body]), workspace)
+        verdicts = {name: outcome.verdict for name, outcome in found.items()}
+        verdicts |= self.copies_once_more(crate, beside_right, found, workspace)
+        apart = {copy.body.name for copy in beside_right}
         for body in group.bodies:
+            if verdicts[body.name].refused and body.name not in apart:
+                verdicts |= self.once_more(crate, body, found[body.name], workspace)
             crate.tell(body, verdicts[body.name])
 
-    def look(self, crate: Crate, group: Group, workspace: Workspace) -> tuple[dict[str, Outcome], set[str]]:
-        """Checks a group. A body that isn't refused in it is tried again in its place and by itself, since the fault
-        may be another's. Returns what was found of each body, and the names of those that were tried again.
-
-        But where bodies in their places are tried together, and the check says of one that it only calls what isn't
-        proved, the grouping missed a call, and is told."""
-        found, is_alone = self.outcomes(crate, group, workspace), len(group.bodies) == 1 and not group.copies
-        apart = set[str]()
-        for body in group.bodies:
-            verdict = found[body.name].verdict
-            if verdict.refused or is_alone:
-                continue
-            if not group.copies and CALLS.search(verdict.words):
-                words = f"its group has a function that it calls, which the grouping missed: {verdict.words}"
-                found[body.name] = Outcome(Verdict(NOT_REFUSED, words))
-            else:
-                found[body.name] = self.outcomes(crate, Group([body]), workspace)[body.name]
-                apart.add(body.name)
-        return found, apart
-
-    def look_again(self, crate: Crate, bodies: Sequence[Body], found: Mapping[str, Outcome],
-                   suffixes: Mapping[str, str], workspace: Workspace) -> dict[str, Verdict]:
-        """Checks bodies that one check refused once more, and returns the verdicts on those for which something can be
-        opened or left out. They are in copies if there are suffixes, and else in their places."""
-        folder, controls = self.table.folder(crate.name), dict[str, Outcome]()
-        them = [again(body, found[body.name], crate.opening, crate.source, folder) for body in bodies]
-        them = [it for it in them if it.is_another()]
-        if not them:
+    def copies_once_more(self, crate: Crate, copies: Sequence[Copy], found: Mapping[str, Outcome],
+                         workspace: Workspace) -> dict[str, Verdict]:
+        """Checks copies that one check refused once more, and returns the verdicts on those for which something can be
+        opened or left out."""
+        folder = self.table.folder(crate.name)
+        pairs = [(again(it.body, found[it.body.name], crate.opening, crate.source, folder), it) for it in copies]
+        pairs = [(it, copy) for it, copy in pairs if it.is_another()]
+        if not pairs:
             return {}
-        if suffixes:
-            copies, rights = copies_again(them, [suffixes[it.body.name] for it in them], crate.source, folder)
-            every = [*copies, *rights.values()]
-            outcomes = self.outcomes(crate, Group([copy.body for copy in every], every), workspace)
-            for it in them:
-                if it.body.touched[0].key() in rights:
-                    controls[it.body.name] = outcomes[rights[it.body.touched[0].key()].body.name]
-        else:
-            there, proofs, right_ones, right_proofs = in_places_again(them, crate.source, folder)
-            outcomes = self.outcomes(crate, Group(there, proofs=proofs), workspace)
-            if right_ones:
-                controls = self.outcomes(crate, Group(right_ones, proofs=right_proofs), workspace)
-        if len(them) > 1 and not all(outcomes[it.body.name].goals for it in them):
+        changed, rights = copies_again(pairs, crate.source, folder)
+        every = [*changed, *rights.values()]
+        outcomes = self.outcomes(crate, Group([copy.body for copy in every], every), workspace)
+        if len(pairs) > 1 and not all(outcomes[it.body.name].goals for it, _ in pairs):
             # The check came to no verdict, perhaps for the sake of one of them.
-            verdicts = [self.look_again(crate, [it.body], found, suffixes, workspace) for it in them]
-            return {name: verdict for each in verdicts for name, verdict in each.items()}
-        return {it.body.name: settled(it, outcomes[it.body.name], controls.get(it.body.name)) for it in them}
+            each = [self.copies_once_more(crate, [copy], found, workspace) for _, copy in pairs]
+            return {name: verdict for it in each for name, verdict in it.items()}
+        names = {key: copy.body.name for key, copy in rights.items()}
+        controls = [outcomes.get(names.get(it.body.touched[0].key(), "")) for it, _ in pairs]
+        return {it.body.name: settled(it, outcomes[it.body.name], control) for (it, _), control in zip(pairs, controls)}
+
+    def once_more(self, crate: Crate, body: Body, first: Outcome, workspace: Workspace) -> dict[str, Verdict]:
+        """Checks a body that one check refused in its place once more, and returns the verdict on it, if something can
+        be opened or left out."""
+        source, folder = crate.source, self.table.folder(crate.name)
+        it, control = again(body, first, crate.opening, source, folder), None
+        if not it.is_another():
+            return {}
+
+        def outcome(tried: Body, left_out: Sequence[set[tuple[str, str]]]) -> Outcome:
+            there, proofs = in_place(it, tried, left_out, source, folder)
+            return self.outcomes(crate, Group([there], proofs=proofs), workspace)[body.name]
+
+        second = outcome(body, it.left_out)
+        if any(it.written):
+            control = outcome(right(body, body.name, source), it.answers)
+        return {body.name: settled(it, second, control)}
 
     def outcomes(self, crate: Crate, group: Group, workspace: Workspace) -> dict[str, Outcome]:
         texts, paths = group.texts(crate.source), paths_of(group, crate.source)
