@@ -7,17 +7,11 @@ Run it after a change of one of them, of `tools/cdc6600/shared/program.py`, or o
 from __future__ import annotations
 
 import shutil
-import signal
-import subprocess
 from pathlib import Path
-from typing import Any
 
-import pytest
 from running import called
 from small_checkout import Checkout, write_all, write_workspace
 
-from cdc6600.building import processes
-from cdc6600.building.building import ended
 from cdc6600.shared.program import ROOT
 from cdc6600.shared.waiting import finish, wait_until
 
@@ -51,29 +45,6 @@ def test_unproved_crate_is_told(tmp_path: Path) -> None:
     status, lines, made = builds(tmp_path)
     assert status == 1 and "cdc6600: upper isn't proved" in lines and not made.exists()
     assert any(line.startswith("fn upper::two: no proof") for line in lines)
-
-
-def test_signal_while_a_command_begins(tmp_path: Path, monkeypatch: pytest.MonkeyPatch) -> None:
-    """The command is ended though the tool doesn't know of it yet when the signal comes."""
-    begun, begin = list[subprocess.Popen[str]](), subprocess.Popen
-
-    def begin_with_a_signal(*words: Any, **how: Any) -> subprocess.Popen[str]:
-        begun.append(begin(*words, **how))
-        signal.raise_signal(signal.SIGTERM)
-        return begun[0]
-
-    def work() -> int:
-        return processes.run(["sleep", "infinity"], tmp_path).status
-
-    monkeypatch.setattr(processes, "RUNNING", processes.Running())
-    monkeypatch.setattr(subprocess, "Popen", begin_with_a_signal)
-    before = {number: signal.getsignal(number) for number in processes.ENDING}
-    with pytest.raises(SystemExit):
-        ended(work)
-    for number, handler in before.items():
-        signal.signal(number, handler)
-    signal.set_wakeup_fd(-1)
-    assert [it.wait() for it in begun] == [-signal.SIGTERM]
 
 
 # ---- when ./cdc6600 builds the program, in a copy of the repository with three crates of nothing ----

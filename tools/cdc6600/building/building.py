@@ -7,22 +7,18 @@ import fcntl
 import os
 import re
 import shutil
-import signal
 import subprocess
 import sys
 import tempfile
-import threading
-import time
 from contextlib import contextmanager
 from pathlib import Path
-from types import FrameType
 from typing import Callable, Iterator, Sequence
 
 from cdc6600.crates.kit import checker
 from cdc6600.crates.table import Table, Unreadable
 from cdc6600.shared.program import ROOT
 
-from .processes import ENDING, run
+from .processes import attended, run
 
 SOURCE_SUM = ROOT / "tools/source-sum"
 # The file of a crate that has the version of the program.
@@ -33,8 +29,6 @@ TESTS = re.compile(r"^#\[cfg\(test\)\]\nmod \w+;\n", re.MULTILINE)
 # How `rt ci` reports a crate: after what the checker said of it, or by itself if an earlier run has proved it.
 REPORT = re.compile(r"rt: (\w+) (proved|NOT PROVED|is kept: )")
 LINES_OF_A_FAULT = 40
-# The seconds after which a signal is sent again, or a folder removed.
-MOMENT, ATTEMPTS = 0.1, 50
 
 
 class Unproved(Exception):
@@ -111,7 +105,7 @@ def prove(table: Table, names: Sequence[str], room: Path) -> Table:
 
     # `rt ci` runs the program as another user, who has to get into the folder.
     room.chmod(0o711)
-    if run(["env", f"TMPDIR={room}", str(checker().with_name("rt")), "ci"], copy.root, heed).status:
+    if run([str(checker().with_name("rt")), "ci"], copy.root, heed).status:
         raise Unproved("".join([*said[-LINES_OF_A_FAULT:], "cdc6600: the crates aren't built"]))
     return copy
 
@@ -146,47 +140,16 @@ def locked(file: Path) -> Iterator[None]:
 
 @contextmanager
 def temporary() -> Iterator[Path]:
-    """A temporary folder. Commands that a signal ends may write into it for another moment, so that it takes several
-    attempts to remove it."""
-    room = Path(tempfile.mkdtemp(prefix="cdc6600-"))
-    try:
-        yield room
-    finally:
-        for _ in range(ATTEMPTS):
-            shutil.rmtree(room, ignore_errors=True)
-            if not room.exists():
-                break
-            time.sleep(MOMENT)
-
-
-def end(number: int, _: FrameType | None) -> None:
-    """Ends this process after a signal, and ignores further signals. Ctrl-C arrives twice: from the terminal, and from
-    the script that waits for this process."""
-    for it in ENDING:
-        signal.signal(it, signal.SIG_IGN)
-    sys.exit(128 + number)
-
-
-def repeat(signals: int) -> None:
-    """Sends each signal to the main thread again, a moment later, if `end` hasn't handled it by then. The main thread
-    misses a signal that arrives just before it begins to wait."""
-    while number := os.read(signals, 1):
-        time.sleep(MOMENT)
-        if signal.getsignal(number[0]) is end:
-            signal.pthread_kill(threading.main_thread().ident or 0, number[0])
+    """A temporary folder. A command that is about to be ended may still write into it."""
+    with tempfile.TemporaryDirectory(prefix="cdc6600-", ignore_cleanup_errors=True) as name:
+        yield Path(name)
 
 
 def ended(work: Callable[[], int]) -> int:
-    """Goes through the work of a tool that builds; its status. A signal ends it too, with all that it has started, and
-    so does a fault of the system, such as a full disk, with a line."""
-    signals, caught = os.pipe()
-    os.set_blocking(caught, False)
-    signal.set_wakeup_fd(caught)
-    threading.Thread(target=repeat, args=(signals,), daemon=True).start()
-    for number in ENDING:
-        signal.signal(number, end)
+    """Goes through the work of a tool that builds; its status. A fault of the system, such as a full disk, ends it with
+    a line."""
     try:
-        return work()
+        return attended(work)
     except (Unproved, Unreadable) as reason:
         print(reason, file=sys.stderr)
     except OSError as fault:

@@ -23,7 +23,6 @@ of which it can't tell. The very last line is `N passed, M failed`. The status i
 """
 
 import argparse
-import signal
 import subprocess
 import sys
 import tempfile
@@ -33,6 +32,7 @@ from typing import Iterable, Sequence
 
 from cdc6600.building import host
 from cdc6600.building.building import Unproved
+from cdc6600.building.processes import attended
 from cdc6600.crates.crate import EDITS
 from cdc6600.crates.kit import logic
 from cdc6600.crates.table import Table, Unreadable
@@ -158,10 +158,8 @@ def work() -> int:
 
 
 def main() -> int:
-    for signals in (signal.SIGTERM, signal.SIGHUP):
-        signal.signal(signals, lambda *_: sys.exit(1))
     try:
-        return work()
+        return attended(work)
     except (Unreadable, Unproved) as reason:
         print(f"tools/wrong-bodies: {reason}")
         return 1

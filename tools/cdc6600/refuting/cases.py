@@ -7,7 +7,6 @@ others, since they take longest. Where such a run may have several logs, it may 
 one. Those of a crate of tests are its tests.
 """
 
-import os
 import random
 import re
 import resource
@@ -27,6 +26,8 @@ from .choosing import STARTING
 # A body may run on and on, and print on and on. The right program's longest case takes less than a tenth of these
 # seconds on an idle machine, and prints less than a hundredth of these bytes.
 SECONDS, BYTES = 30, 1 << 24
+# What kills a command after these seconds with all that it has started, and the status by which it says so.
+TIMED, TIMED_OUT = ["timeout", "-s", "KILL", str(SECONDS)], 128 + signal.SIGKILL
 # The program without its proof takes minutes for these decks.
 LONG = {"endless"}
 DRAWN = 60
@@ -93,15 +94,10 @@ class Case:
             given.seek(0)
             with STARTING:
                 process = subprocess.Popen(
-                    words, cwd=ROOT, stdin=given, stdout=printed, stderr=told, preexec_fn=limit, start_new_session=True
+                    [*TIMED, *words], cwd=ROOT, stdin=given, stdout=printed, stderr=told, preexec_fn=limit
                 )
-            with process:
-                try:
-                    status = process.wait(SECONDS)
-                except subprocess.TimeoutExpired:
-                    os.killpg(process.pid, signal.SIGKILL)
-                    status = None
-            return Ran(status, *(read(it) for it in (printed, told)))
+            status = process.wait()
+            return Ran(None if status == TIMED_OUT else status, *(read(it) for it in (printed, told)))
 
 
 def limit() -> None:
