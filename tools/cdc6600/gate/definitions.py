@@ -16,6 +16,8 @@ from cdc6600.rules.mentions import Rules, is_tried
 from cdc6600.rules.rows import COLUMNS, HEAD, PAGE, functions_in, items_in, lines_of_rules
 from cdc6600.shared.program import ROOT
 
+from .parts import told
+
 # ---- what the cells name ----
 
 FILES = Files()
@@ -135,5 +137,4 @@ def main() -> int:
         for it in module.definitions:
             if f"{name}:{it}" not in cited:
                 fault(module.path, f"neither a contract cites {it} nor a definition that one cites")
-    print("\n".join(FAULTS), end="\n" if FAULTS else "")
-    return 1 if FAULTS else 0
+    return told(FAULTS)

@@ -10,13 +10,13 @@ whether the prover refuses a wrong body is up to `tools/wrong-bodies`.
 Run it after a change of code or of an edit.
 """
 
-import sys
-
 from cdc6600.crates.source import Sources
 from cdc6600.crates.table import Table, Unreadable
 from cdc6600.shared.program import ROOT
 from cdc6600.wrong_bodies.edits import UNSURE, read_bodies
 from cdc6600.wrong_bodies.kept import read_rows
+
+from .parts import told
 
 MOST_UNSURE = 20
 
@@ -35,5 +35,4 @@ def main() -> int:
         faults.append(str(fault))
     if unsure > MOST_UNSURE:
         faults.append(f"{unsure} edits say `{UNSURE}: `, and at most {MOST_UNSURE} may")
-    sys.stdout.writelines(f"{fault}\n" for fault in faults)
-    return 1 if faults else 0
+    return told(faults)

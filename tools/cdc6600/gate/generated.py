@@ -11,6 +11,8 @@ import sys
 from cdc6600.generating import calls, checks, crate_map
 from cdc6600.shared.program import ROOT
 
+from .parts import told
+
 PAGES = (calls, crate_map, checks)
 
 
@@ -23,5 +25,4 @@ def main() -> int:
             file.write_text(text, encoding="utf-8")
         elif not file.exists() or file.read_text(encoding="utf-8") != text:
             faults.append(f"{page.PAGE} isn't what its sources give: run tools/check generated --write")
-    print("\n".join(faults), end="\n" if faults else "")
-    return 1 if faults else 0
+    return told(faults)

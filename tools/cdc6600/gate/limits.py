@@ -15,8 +15,9 @@ from dataclasses import dataclass
 
 from cdc6600 import limits
 from cdc6600.crates.crate import crates
-from cdc6600.gate.parts import NAMES, file_of
 from cdc6600.shared.program import ROOT
+
+from .parts import NAMES, file_of, told
 
 NUMBER = r"(0x[0-9a-f_]+|0o[0-7_]+|[0-9][0-9_]*)(?:[iu](?:8|16|32|64|size))?\b"
 # What a source may have as a limit: the name under which `LIMITS` has it, and its number.
@@ -180,5 +181,4 @@ def main() -> int:
     found = found_limits()
     faults = [f"crates/{name}: there is no such limit" for name in LIMITS if name not in dict(found)]
     faults += [f"crates/{name} {value}: {fault}" for name, value in found if (fault := fault_of(name, value))]
-    print("\n".join(faults), end="\n" if faults else "")
-    return 1 if faults else 0
+    return told(faults)

@@ -17,7 +17,6 @@ Run it after a change of names, or of where files are.
 """
 
 import re
-import subprocess
 from functools import cache
 from pathlib import Path
 from typing import Iterator
@@ -26,6 +25,8 @@ from cdc6600.crates.crate import Crate, crates
 from cdc6600.crates.table import Table
 from cdc6600.shared.instructions import ROWS
 from cdc6600.shared.program import ROOT
+
+from .parts import told, tracked
 
 QUOTED = re.compile(r"`([^`]*)`")
 NAME = re.compile(r"\w+(?:(?:::|/)\w+)*")
@@ -165,12 +166,6 @@ def faults_of_calls(page: str, lines: list[str]) -> Iterator[str]:
 # ---- paths and links ----
 
 
-def tracked(*patterns: str) -> list[str]:
-    """The files that are part of the repository and match a pattern, by their paths."""
-    listed = subprocess.run(["git", "ls-files", *patterns], cwd=ROOT, check=True, capture_output=True, text=True)
-    return [path for path in listed.stdout.splitlines() if (ROOT / path).is_file()]
-
-
 def is_there(path: str) -> bool:
     """Whether there is a file or a folder at a path, or one that it stands for."""
     return bool(PLACEHOLDER.search(path)) or (any(ROOT.glob(path)) if "*" in path else (ROOT / path).exists())
@@ -214,5 +209,4 @@ def main() -> int:
         if name in pages:
             faults += faults_of_links(name, lines)
             faults += faults_of_calls(name, lines) if name != CALLS else []
-    print("\n".join(faults), end="\n" if faults else "")
-    return 1 if faults else 0
+    return told(faults)

@@ -2,6 +2,9 @@
 the folder of tests; any other check is a module of `checks` or of `gate`.
 """
 
+import subprocess
+from typing import Iterable
+
 from cdc6600.shared.program import ROOT
 
 TESTS = "tests"
@@ -30,6 +33,17 @@ SHARED_OUT = dict.fromkeys(
     ("decks", "pages", "assembler", "sequential", "mutations", "failures", "trace", "many-jobs", "scheduling",
      "exploring", "random-sessions", "operate", "cycles", "habits", "emulators", "browser", "driving"), 4
 )
+
+
+def tracked(*patterns: str) -> list[str]:
+    """The files that are part of the repository and match a pattern, by their paths."""
+    listed = subprocess.run(["git", "ls-files", *patterns], cwd=ROOT, check=True, capture_output=True, text=True)
+    return [path for path in listed.stdout.splitlines() if (ROOT / path).is_file()]
+
+
+def told(faults: Iterable[str]) -> int:
+    """Prints the faults that a check found, each in a line; its status."""
+    return 1 if [print(fault) for fault in faults] else 0
 
 
 def command(name: str) -> list[str]:

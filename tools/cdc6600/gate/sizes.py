@@ -12,6 +12,8 @@ Run it after a change of the code.
 from cdc6600.crates.crate import Crate, crates
 from cdc6600.generating.sizes import sizes_of
 
+from .parts import told
+
 MOST_LINES, MOST_FUNCTIONS, MOST_OF_A_FUNCTION = 1550, 100, 40
 
 
@@ -27,5 +29,4 @@ def main() -> int:
         lines, functions, *_ = sizes_of(crate)
         faults += [f"too large: `{crate.name}`"] if lines > MOST_LINES or functions > MOST_FUNCTIONS else []
         faults += long_functions(crate)
-    print("\n".join(faults), end="\n" if faults else "")
-    return 1 if faults else 0
+    return told(faults)

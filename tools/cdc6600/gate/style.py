@@ -10,25 +10,22 @@ from pathlib import Path
 from cdc6600.checks.debian import python_with
 from cdc6600.shared.program import ROOT
 
+from .parts import tracked
+
 SHEBANG = b"python3"
 
 
 def is_python(file: Path) -> bool:
     """Whether a file is Python: by its name, or by its first line if its name has no ending."""
-    if not file.is_file() or file.suffix:
-        return file.suffix == ".py" and file.is_file()
+    if file.suffix:
+        return file.suffix == ".py"
     with file.open("rb") as text:
         return SHEBANG in text.readline()
 
 
-def sources() -> list[str]:
-    """The files of the repository that are Python, by their paths."""
-    listed = subprocess.run(["git", "ls-files"], cwd=ROOT, check=True, capture_output=True, text=True).stdout
-    return [path for path in listed.splitlines() if is_python(ROOT / path)]
-
-
 def main() -> int:
-    styled = [python_with("flake8"), "-m", "flake8", *sources()]
-    tests = [path for path in sources() if path.startswith("tests/")]
+    sources = [path for path in tracked() if is_python(ROOT / path)]
+    styled = [python_with("flake8"), "-m", "flake8", *sources]
+    tests = [path for path in sources if path.startswith("tests/")]
     typed = ["mypy", "--config-file", "tools/mypy.ini", "--no-error-summary", "tools/cdc6600", *tests]
     return max([subprocess.run(words, cwd=ROOT, check=False).returncode for words in (styled, typed)])
