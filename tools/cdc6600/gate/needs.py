@@ -1,28 +1,27 @@
 """Tries the programs and modules that the checks need, by `tools/check --needs`, on a machine that was just set up.
 
-Each program of tools/debian-packages that is installed does a small piece of work, and each check that isn't left out
-is imported, by pytest if it is a test. So it is seen in two minutes, before anything is proved, whether a check would
-fail for want of a program, a module or a header.
+Each program of tools/debian-packages that is installed does a small piece of work, and the checks that aren't left out
+are imported, by pytest if they are tests. So it is seen in two minutes, before anything is proved, whether a check
+would fail for want of a program, a module or a header.
 """
 
 import os
 import subprocess
 import sys
 import tempfile
-from pathlib import Path
-from typing import Any
+from typing import Sequence
 
-from cdc6600.checks.debian import MODULES, Needed, needed, python_with
+from cdc6600.checks.debian import MODULES, needed, python_with
 from cdc6600.crates.kit import kit
 from cdc6600.crates.table import Unreadable
 from cdc6600.shared.program import ROOT
 
-from .parts import called, file_of, is_test, module
+from .parts import file_of, is_test, module
 
-# The languages in which a program is compiled, with the words after the name of the compiler.
+# How a program is compiled from a text, and run.
 COMPILED = {
-    "cc": ("#include <stdio.h>\nint main(void) { return puts(\"\") < 0; }\n", "-x", "c", "-o"),
-    "rustc": ("fn main() {}\n", "-o"),
+    "cc": ("#include <stdio.h>\nint main(void) { return puts(\"\") < 0; }\n", '${CC:-cc} -x c -o "$0" - && "$0"'),
+    "rustc": ("fn main() {}\n", 'rustc -o "$0" - && "$0"'),
 }
 # A module of types, which can't be imported.
 TYPES = ("gdb-stubs",)
@@ -30,37 +29,27 @@ TYPES = ("gdb-stubs",)
 NOT_BUILT = {"CDC6600": "/bin/true", "CDC6600_LIBRARY": "/nonexistent"}
 
 
-def ran(words: list[str], text: str = "") -> str | None:
+def ran(words: Sequence[str], text: str = "") -> str | None:
     """What a command says if it fails, or None if it succeeds."""
-    how: dict[str, Any] = {"stdout": subprocess.PIPE, "stderr": subprocess.STDOUT, "text": True, "errors": "replace"}
     path = os.pathsep.join([str(ROOT / "tools"), str(ROOT / "tests")])
     environment = {**os.environ, **NOT_BUILT, "PYTHONPATH": path, "PYTHONDONTWRITEBYTECODE": "1"}
     try:
-        done = subprocess.run(words, input=text, cwd=ROOT, env=environment, check=False, **how)
+        done = subprocess.run(words, input=text, cwd=ROOT, env=environment, check=False, stdout=subprocess.PIPE,
+                              stderr=subprocess.STDOUT, encoding="utf-8", errors="replace")
     except OSError as fault:
         return f"{words[0]}: {fault.strerror}"
     return f"{' '.join(words)}\n{done.stdout}" if done.returncode else None
 
 
-def fault_of_program(it: Needed) -> str | None:
+def fault_of_program(name: str) -> str | None:
     """Why a program of the list can't do its work, or None if it can."""
-    if it.program in TYPES:
-        return None
-    if it.program in MODULES:
-        return ran([python_with(*MODULES[it.program]), "-c", f"import {it.program}"])
-    if it.program not in COMPILED:
-        return ran([it.program, "--version"])
-    text, *words = COMPILED[it.program]
+    if name in MODULES:
+        return None if name in TYPES else ran([python_with(*MODULES[name]), "-c", f"import {name}"])
+    if name not in COMPILED:
+        return ran([name, "--version"])
+    text, line = COMPILED[name]
     with tempfile.TemporaryDirectory(prefix="cdc6600-") as room:
-        compiler = os.environ.get("CC", "cc") if it.program == "cc" else it.program
-        return ran([compiler, *words, str(Path(room) / "made"), "-"], text) or ran([str(Path(room) / "made")])
-
-
-def fault_of_check(name: str) -> str | None:
-    """Why a check can't begin, or None if it can."""
-    if is_test(name):
-        return ran([python_with("pytest"), "-m", "pytest", "--collect-only", "-p", "no:cacheprovider", file_of(name)])
-    return ran([sys.executable, "-c", f"import {module(name)}"])
+        return ran(["sh", "-c", line, f"{room}/made"], text)
 
 
 def fault_of_kit() -> str | None:
@@ -74,8 +63,11 @@ def fault_of_kit() -> str | None:
 
 def tried(names: list[str]) -> tuple[int, int]:
     """How much of what these checks need is there, and how much isn't. Each fault is printed."""
-    programs = {it.program: fault_of_program(it) for it in needed() if it.is_installed()}
-    found = {"rt": fault_of_kit(), **programs, **{called(name): fault_of_check(name) for name in names}}
+    collecting = [python_with("pytest"), "-m", "pytest", "--collect-only", "-p", "no:cacheprovider"]
+    modules = ", ".join(module(name) for name in names if not is_test(name))
+    found = {"rt": fault_of_kit(), **{it.program: fault_of_program(it.program) for it in needed() if it.is_installed()},
+             "the checks": ran([sys.executable, "-c", f"import {modules}"]),
+             "the tests": ran([*collecting, *(file_of(name) for name in names if is_test(name))])}
     for name, fault in found.items():
         print(*[f"{name}: {fault}\n"] * (fault is not None), sep="", end="", flush=True)
     faults = [it for it in found.values() if it]
