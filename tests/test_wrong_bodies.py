@@ -24,10 +24,10 @@ from cdc6600.refuting.cases import Ran
 from cdc6600.refuting.choosing import Choice, with_bodies
 from cdc6600.shared.program import ROOT
 from cdc6600.wrong_bodies.assumed import as_proved, assumed
-from cdc6600.wrong_bodies.copies import beside, can_stand_beside, copied, copy_of
-from cdc6600.wrong_bodies.edits import LET_THROUGH, UNSURE as NOT_SURE, applied, read_bodies, read_body
+from cdc6600.wrong_bodies.copies import beside, can_stand_beside, copied
+from cdc6600.wrong_bodies.edits import LET_THROUGH, UNSURE as NOT_SURE, read_bodies, read_body
 from cdc6600.wrong_bodies.kept import ROWS, read_rows, sum_of_contracts, sum_of_crate
-from cdc6600.wrong_bodies.opening import Opening, opened
+from cdc6600.wrong_bodies.opening import opened
 from cdc6600.wrong_bodies.verdicts import is_of, outcome_of
 from cdc6600.wrong_bodies.written import resting, without
 
@@ -178,10 +178,6 @@ class Tiny:
         """The function that a body changes."""
         return self.bodies[name].touched[0]
 
-    def copy(self, name: str, ending: str, *opened_and_left_out: Any) -> Any:
-        """The copy of that function with this ending of its name."""
-        return copy_of(self.bodies[name], ending, self.source, self.crate, *opened_and_left_out)
-
     def outcome(self, name: str, *lines: str, status: int = 1, texts: dict[str, str] | None = None) -> Any:
         """What a check with these further texts and this status says of a body."""
         said, texts = "\n".join(lines), self.source.texts | (texts or {})
@@ -253,21 +249,6 @@ def test_closure_is_of_its_method(tiny: Tiny, name: str, is_its: bool) -> None:
     assert is_of(f"tiny::fn::Few::{name}::again", tiny.item("with_no_other"), "tiny") == is_its
 
 
-def test_second_copy_opens_and_leaves_out(tiny: Tiny) -> None:
-    path, opening = "proofs/double/Answers.antt", "crate::specs::After::doubled"
-    copy = tiny.copy("none_is_double", "wrong_0", [opening], {(path, "returns-clause-is")})
-    assert f"#[tactic(auto, unfolding({opening}))]" in copy.lines
-    head = text_of(path).partition("is_doubled")[0].replace("proofs.double.", "proofs.double_wrong_0.")
-    assert copy.proofs[0][2].strip() == head.strip()
-
-
-@pytest.mark.parametrize("name, wanted", [
-    ("two_after_the_next", ("crate::specs::After::two_after",)), ("adds_two", ()),
-])
-def test_definitions_of_a_goal_are_found(tiny: Tiny, name: str, wanted: Edit) -> None:
-    assert Opening(tiny.table, "tiny").of(tiny.item(name), tiny.source, {"plus_one"}) == wanted
-
-
 def test_attribute_keeps_its_lists(tiny: Tiny) -> None:
     c, d = "crate::specs::A::c", "crate::specs::A::d"
     tactic = "    #[tactic(auto, using(crate::proofs::A::b), unfolding({}))]"
@@ -306,13 +287,6 @@ def test_contracts_of_right_bodies_are_assumed(tiny: Tiny) -> None:
     assert "    // One more.\n    x + 1\n" in library
 
 
-def test_right_bodies_do_nothing_beside_copies(tiny: Tiny) -> None:
-    copies = [tiny.copy(name, f"wrong_{at}") for at, name in enumerate(("adds_two", "larger_of_two"))]
-    text = str(assumed(tiny.source, tiny.crate, [], beside(copies, tiny.source))["src/lib.rt"])
-    assert "    x + 2\n" in text and "{ b } else { a }\n" in text
-    assert "    x + 1\n" not in text and "{ a } else { b }" not in text
-
-
 @pytest.mark.parametrize("said, wanted", [
     (
         f"fn tiny::plus_one: depends on a hole in `Rattle.tiny.proofs.plus_one.Proof.plus_one_spec`\n"
@@ -323,10 +297,6 @@ def test_right_bodies_do_nothing_beside_copies(tiny: Tiny) -> None:
 ], ids=["a hole", "no holes"])
 def test_assumed_contract_counts_as_proved(said: str, wanted: str) -> None:
     assert as_proved(said) == wanted
-
-
-def test_body_is_in_its_place(tiny: Tiny) -> None:
-    assert applied(tiny.bodies["adds_two"], tiny.source)["src/lib.rt"] == LIBRARY.replace("    x + 1\n", "    x + 2\n")
 
 
 @pytest.mark.parametrize("status, lines, goal", VERDICTS.values(), ids=VERDICTS)
