@@ -33,18 +33,15 @@ KINDS = (
 @dataclass(frozen=True)
 class Past:
     """What goes past a limit: texts of a file; or, in a file, more matches of a pattern than the limit, or as many if
-    `is_full`. If nothing can, `why` says why."""
+    `is_full`."""
 
-    file: str = ""
-    texts: tuple[str, ...] = ()
+    file: str
+    texts: tuple[str, ...]
     pattern: str = ""
     is_full: bool = False
-    why: str = ""
 
     def fault(self, value: int) -> str | None:
         """What the file lacks."""
-        if self.why:
-            return None
         if not (ROOT / self.file).is_file():
             return f"there is no {self.file}"
         text = (ROOT / self.file).read_text(encoding="utf-8")
@@ -55,57 +52,48 @@ class Past:
         return None if many > value or self.is_full and many == value else f"{self.file} has only {many} for {value}"
 
 
-def has(where: str, *texts: str) -> Past:
-    """The texts of a file, or of the check with this name."""
-    return Past(file_of(where) if where in NAMES else where, texts)
-
-
-def run(name: str, *texts: str, pattern: str = "", is_full: bool = False) -> Past:
-    """What goes past the limit in a file of decks/run."""
-    return Past(f"decks/run/{name}", texts, pattern, is_full)
-
-
-def nothing(why: str) -> Past:
-    """No input goes past the limit."""
-    return Past(why=why)
+def has(where: str, *texts: str, pattern: str = "", is_full: bool = False) -> Past:
+    """What goes past the limit in a file, or in the check with this name."""
+    return Past(file_of(where) if where in NAMES else where, texts, pattern, is_full)
 
 
 REFUSALS = "decks/pages/refusals.md"
-REGISTERS = nothing("an instruction has two results and three operands at most, which is proved at each push")
-STATUS = nothing("it is the number of a status")
-BITS = nothing("it is a pattern of bits, and no limit")
+REGISTERS = "an instruction has two results and three operands at most, which is proved at each push"
+STATUS = "it is the number of a status"
+BITS = "it is a pattern of bits, and no limit"
 # The thread for requests at any time waits as long as this run takes.
-WAITS = run("endless.dump", "LOG E40 I1000000")
+WAITS = has("decks/run/endless.dump", "LOG E40 I1000000")
 FULL_HOPPER = has("decks/sessions/full-hopper.answers", "E11 hopper full")
 
-LIMITS = {
+# For each limit what goes past it, or why nothing can.
+LIMITS: dict[str, Past | str] = {
     # The machine.
     "instructions/src/limits.rt MOST_ISSUES": has("crates/operator_main/src/command_tests.rt", "{more}"),
     "instructions/src/limits.rt MOST_REQUESTS": has("large", "MOST_REQUESTS", "one request more"),
     "instructions/src/limits.rt MOST_ACCESSES": has("large", "MOST_ACCESSES", "one too many"),
-    "instructions/src/limits.rt FIRST_CHANNEL": run("all-rows.deck", "SA{value} "),
-    "instructions/src/limits.rt PAST_CHANNELS": run("all-rows.deck", "SA{less} "),
+    "instructions/src/limits.rt FIRST_CHANNEL": has("decks/run/all-rows.deck", "SA{value} "),
+    "instructions/src/limits.rt PAST_CHANNELS": has("decks/run/all-rows.deck", "SA{less} "),
     "instructions/src/registers.rt ArrayVec<Reg, ": REGISTERS,
     "scoreboard/src/reservation.rt ArrayVec<Reg, ": REGISTERS,
     "hopper/src/reference.rt PLACES": FULL_HOPPER,
-    "in_flight/src/slots.rt SLOTS": nothing("there are ten units, four places of the hopper and eight channels"),
-    "machine/src/events.rt MOST_WORK": nothing("the contract of `drain` says that nothing is pending after it"),
+    "in_flight/src/slots.rt SLOTS": "there are ten units, four places of the hopper and eight channels",
+    "machine/src/events.rt MOST_WORK": "the contract of `drain` says that nothing is pending after it",
     "machine/src/processor/exchanging.rt REQUEST_ROOM": has("allocations", "EXCHANGE"),
     "machine/src/processor/peripheral.rt ACCESS_ROOM": has("allocations", "ACCESSES"),
     "relocation/src/area.rt PACKAGE_WORDS": has("decks/sessions/asking.answers", "E19 package range"),
-    "relocation/src/saved.rt PAGE": run("second-page.deck", "core {more}"),
+    "relocation/src/saved.rt PAGE": has("decks/run/second-page.deck", "core {more}"),
     "relocation/src/storage.rt SMALLEST": has(REFUSALS, "`core {less}\\n` | 1: size"),
     "relocation/src/storage.rt LARGEST": has(REFUSALS, "`core {more}\\n` | 1: size"),
-    "relocation/src/storage.rt BANKS": run("all-banks.dump", pattern="^M "),
+    "relocation/src/storage.rt BANKS": has("decks/run/all-banks.dump", pattern="^M "),
     "sequential_run/src/judging.rt REST_OF_A_WORD": has(
         "crates/text_tests/src/fulfilled_requests_tests.rt", "E0 E60 E20 I8 E20 E40"
     ),
     "word60/src/word18.rt ONES": BITS,
     "word60/src/word60.rt ONES": BITS,
     # A run by threads.
-    "unit_workers/src/issuing.rt ISSUES_OF_A_HOLD": run("straight.deck", pattern=r"\bNO\b"),
-    "unit_workers/src/issuing.rt ArrayVec<Option<Note>, ": run(
-        "seven-units.deck", pattern="(?:^code|;) (?!PS)", is_full=True
+    "unit_workers/src/issuing.rt ISSUES_OF_A_HOLD": has("decks/run/straight.deck", pattern=r"\bNO\b"),
+    "unit_workers/src/issuing.rt ArrayVec<Option<Note>, ": has(
+        "decks/run/seven-units.deck", pattern="(?:^code|;) (?!PS)", is_full=True
     ),
     "unit_queue/src/ends.rt ::ruled(": has("crates/thread_tests/src/queue_tests.rt", "full_then_room_then_closed"),
     "machine_lock/src/shared.rt LOCK_TRIES": has("busy", "BUDGET"),
@@ -118,9 +106,9 @@ LIMITS = {
     "signals/src/signal.rt Duration::from_millis(": WAITS,
     # Decks, schedules and what is printed.
     "parcel/src/lib.rt PARCELS": has(REFUSALS, "| 2: full |"),
-    "instruction_table/src/encoding.rt ArrayVec<u16, ": nothing("an instruction has one parcel or two"),
-    "instruction_table/src/spelling.rt ArrayString<": nothing("the longest text has 15 bytes"),
-    "deck/src/line_list.rt LINES_OF_A_KIND": run("most-requests.deck", pattern="^ask ", is_full=True),
+    "instruction_table/src/encoding.rt ArrayVec<u16, ": "an instruction has one parcel or two",
+    "instruction_table/src/spelling.rt ArrayString<": "the longest text has 15 bytes",
+    "deck/src/line_list.rt LINES_OF_A_KIND": has("decks/run/most-requests.deck", pattern="^ask ", is_full=True),
     "deck/src/reading.rt MOST_LINES": has("large", "MOST_LINES", "too_many"),
     "deck/src/coding.rt ArrayVec<u16, ": has("mutations", "{less}, {value}, 256"),
     "deck/src/coding.rt PASS": BITS,
@@ -128,26 +116,25 @@ LIMITS = {
     "device_text/src/refused_line/position.rt MOST_SHOWN_BYTES": has(
         REFUSALS, "'12345670123456701234567012345670'.."
     ),
-    "device_text/src/refused_line/texts.rt BEFORE": nothing("no text begins before the word and its blank end"),
+    "device_text/src/refused_line/texts.rt BEFORE": "no text begins before the word and its blank end",
     "log_text/src/following_log.rt LONGEST_ENTRY": has(
         "decks/pages/commands.md", "'E40 W777777=777777777777777777777 I1'"
     ),
-    "job_deck/src/dumping.rt for number in": nothing("there are eight X registers"),
-    "job_deck/src/listing.rt while parcel": nothing("a word has four parcels"),
+    "job_deck/src/dumping.rt for number in": "there are eight X registers",
+    "job_deck/src/listing.rt while parcel": "a word has four parcels",
     # The program and the library for C.
     "operator_main/src/progress.rt QUIET": has("progress", "is_shown=True"),
     "operator_main/src/progress.rt Duration::from_secs(": has("progress", "is_shown=True"),
-    "operator_main/src/progress.rt MOST": nothing("a run or a replay takes less than a day"),
-    "operator_main/src/progress.rt PROGRESS_LINE": nothing("the line has five digits at most, and 12 bytes beside"),
-    "operator_main/src/program.rt ONE_LINE": nothing("the longest fault line has 47 bytes"),
-    "operator_main/src/program.rt WITH_POSITION": nothing(
-        "the longest fault line of a refused line has 40 bytes, and the longest line of a position 197"
-    ),
-    "embedding/src/contents.rt LINES": nothing("23 reserved registers have lines of less than 900 bytes"),
-    "embedding/src/outcome.rt FAULT_LINE": nothing("the longest fault line has 47 bytes"),
+    "operator_main/src/progress.rt MOST": "a run or a replay takes less than a day",
+    "operator_main/src/progress.rt PROGRESS_LINE": "the line has five digits at most, and 12 bytes beside",
+    "operator_main/src/program.rt ONE_LINE": "the longest fault line has 47 bytes",
+    "operator_main/src/program.rt WITH_POSITION":
+        "the longest fault line of a refused line has 40 bytes, and the longest line of a position 197",
+    "embedding/src/contents.rt LINES": "23 reserved registers have lines of less than 900 bytes",
+    "embedding/src/outcome.rt FAULT_LINE": "the longest fault line has 47 bytes",
     "embedding/src/outcome.rt NO_MACHINE": STATUS,
     "embedding/src/outcome.rt NOT_DRAINED": STATUS,
-    "embedding/src/stepping.rt LINES": nothing("an event and its answer have at most 60 bytes"),
+    "embedding/src/stepping.rt LINES": "an event and its answer have at most 60 bytes",
 }
 # The names under which tools/cdc6600/limits.py repeats a limit.
 REPEATED = {
@@ -174,7 +161,8 @@ def fault_of(name: str, value: int) -> str | None:
     repeated = REPEATED.get(name.rpartition(" ")[2])
     if repeated and getattr(limits, repeated) != value:
         return f"tools/cdc6600/limits.py: {repeated} is {getattr(limits, repeated)}"
-    return LIMITS[name].fault(value)
+    past = LIMITS[name]
+    return None if isinstance(past, str) else past.fault(value)
 
 
 def main() -> int:
