@@ -8,8 +8,8 @@ Run it after a change of names, definitions or edits.
 """
 
 import re
+from typing import Iterator
 
-from cdc6600.crates.crate import EDITS
 from cdc6600.rules.files import Files, placed
 from cdc6600.rules.labels import LABELS
 from cdc6600.rules.mentions import Rules, is_tried
@@ -18,123 +18,84 @@ from cdc6600.shared.program import ROOT
 
 from .parts import told
 
-# ---- what the cells name ----
-
 FILES = Files()
-FAULTS = []
+RULES = Rules(FILES)
+# The columns whose cells name parts of a file.
+NAMING = ("Definition", "Contract", "Code")
 
 
-def fault(where: str, what: str) -> None:
-    FAULTS.append(f"{where}: {what}")
-
-
-def is_there(where: str, path: str) -> bool:
-    if path.rstrip("/") not in FILES.paths:
-        fault(where, f"there is no {path.rstrip('/')}")
-    return path.rstrip("/") in FILES.paths
-
-
-def check_definitions(where: str, name: str, rest: str) -> None:
-    """Definitions: `crate/File.antt: name, name`."""
-    if is_there(where, placed(name, "specs")):
-        for it in re.split(", *", rest):
-            if not FILES.has_definition(f"{name.removesuffix('.antt')}:{it}"):
-                fault(where, f"{placed(name, 'specs')} doesn't define {it}")
-
-
-def check_functions(where: str, name: str, rest: str) -> list[tuple[str, str]]:
-    """Functions: `crate/file.rt: function (clause, clause), Type::function`. Gives those that are named."""
-    path, found = placed(name, "src"), list[tuple[str, str]]()
-    if not is_there(where, path):
-        return found
-    functions, unread = functions_in(rest)
-    for label, clauses in functions:
-        found.append((name.partition("/")[0], label))
-        function = FILES.functions.get((path, label))
-        if not function:
-            fault(where, f"{path} has no function {label}")
-        for clause in clauses:
-            if not function or clause not in function.clauses:
-                fault(where, f"{label} of {path} has no clause {clause}")
-    if unread:
-        fault(where, f"can't be read: {unread}")
+def missing(column: str, name: str, rest: str) -> list[str]:
+    """What isn't there of what a cell names: `crate/File.antt: name, name`, `crate/file.rt: function (clause, clause),
+    Type::function`, or the path of a proof or an edit."""
+    if column == "Definition":
+        module = name.removesuffix(".antt")
+        return [it for it in re.split(", *", rest) if not FILES.has_definition(f"{module}:{it}")]
+    if column in ("Proof", "Wrong body"):
+        return [] if any(RULES.cells.finders[column](name, rest)) else [name]
+    found = list[str]()
+    for label, clauses in functions_in(rest)[0]:
+        function = FILES.functions.get((placed(name, "src"), label))
+        found += [it for it in clauses if it not in function.clauses] if function else [label]
     return found
 
 
-def check_item(where: str, column: str, item: str) -> list[tuple[str, str]]:
-    """One thing that a cell names; the functions of contracts among them are given."""
+def fault_of_item(column: str, item: str) -> str | None:
+    """What is wrong with what a cell names."""
     name, _, rest = item.partition(": ")
-    has_names = column in ("Definition", "Contract", "Code")
-    if "/" not in name or column == "Source" or has_names != bool(rest):
-        fault(where, f"can't be read: {item}")
-    elif column == "Definition":
-        check_definitions(where, name, rest)
-    elif has_names:
-        found = check_functions(where, name, rest)
-        return found if column == "Contract" else []
-    elif column == "Proof":
-        is_there(where, placed(name, "proofs"))
-    elif not any(placed(name, folder) in FILES.paths for folder in EDITS):
-        is_there(where, placed(name, "wrong-bodies"))
-    return []
+    unread = functions_in(rest)[1] if column in ("Contract", "Code") else ""
+    if column == "Source" or "/" not in name or unread or bool(rest) != (column in NAMING):
+        return f"can't be read: {item}"
+    lacking = missing(column, name, rest)
+    return f"{name} has no {', no '.join(lacking)}" if lacking else None
 
 
-def check_row(where: str, line: str) -> None:
-    """A row of a table of rules."""
+def faults_of_row(line: str) -> Iterator[str]:
+    """What is wrong with a row of a table of rules."""
     _, _, *found = line.split("|")
     if len(found) != 7:
-        fault(where, f"a row has seven cells, and not {len(found)}")
+        yield f"a row has seven cells, and not {len(found)}"
     cells = dict(zip(COLUMNS, [*found, *[""] * len(COLUMNS)]))
-    promising = []
     for column, cell in cells.items():
-        for item in items_in(cell):
-            promising += check_item(where, column, item)
+        yield from (fault for item in items_in(cell) if (fault := fault_of_item(column, item)))
         if cell.count("`") % 2:
-            fault(where, f"can't be read:{cell}")
+            yield f"can't be read:{cell}"
     # Where a row names tactics alone, no function of its contracts has a proof by hand.
-    for crate, name in promising if cells["Proof"].startswith(" tactics") else []:
-        folder = FILES.by_hand.get((crate, name.replace("::", "/", 1)))
-        if folder:
-            fault(where, f"not by tactics alone: there is {folder}")
+    for item in items_in(cells["Contract"]) if cells["Proof"].startswith(" tactics") else []:
+        for it, _ in RULES.cells.functions(*item.split(": ", 1)):
+            if folder := FILES.by_hand.get((it.path.split("/")[1], it.label.replace("::", "/", 1))):
+                yield f"not by tactics alone: there is {folder}"
     if not re.search("[a-z]", cells["Source"]):
-        fault(where, "no source is named")
+        yield "no source is named"
 
 
-def check_tables() -> None:
-    """Every row of the tables of rules."""
-    count = 0
-    for number, line in lines_of_rules():
-        where = f"{PAGE}:{number}"
+def faults_of_tables() -> Iterator[str]:
+    """What is wrong with the tables of rules, and with what `tools/where` finds by them of each refusal."""
+    lines = list(lines_of_rules())
+    for number, line in lines:
         if line.startswith("| Rule |"):
-            if line != HEAD:
-                fault(where, f"the head of a table of rules is {HEAD}")
+            faults = [] if line == HEAD else [f"the head of a table of rules is {HEAD}"]
         else:
-            count += 1
-            check_row(where, line)
-    if not count:
-        fault(PAGE, "there are no rules")
-
-
-def check_labels() -> None:
-    """What `tools/where` finds of each refusal."""
-    rules = Rules(FILES)
-    for number, label in LABELS.items():
-        found = rules.by_rows(number)
+            faults = list(faults_of_row(line))
+        yield from (f"{PAGE}:{number}: {fault}" for fault in faults)
+    if not lines:
+        yield f"{PAGE}: there are no rules"
+    for name, label in LABELS.items():
+        found = RULES.by_rows(name)
         for heading in (it for it in ("definition", "code", "wrong body") if it not in found):
-            fault(PAGE, f"no row that names {number} has a {heading}")
+            yield f"{PAGE}: no row that names {name} has a {heading}"
         if not is_tried(label):
-            fault(PAGE, f"no test and no deck names {number}")
+            yield f"{PAGE}: no test and no deck names {name}"
+
+
+def faults_of_definitions() -> Iterator[str]:
+    """The files of definitions that the page doesn't name, and the definitions that no contract cites."""
+    page, cited = (ROOT / PAGE).read_text(encoding="utf-8"), FILES.all_cited()
+    for name, module in FILES.modules.items():
+        if name.rpartition("/")[2] not in ("Lib", "inner") and f"`{name}.antt" not in page:
+            yield f"{PAGE}: {module.path} isn't named"
+        for it in (it for it in module.definitions if f"{name}:{it}" not in cited):
+            yield f"{module.path}: neither a contract cites {it} nor a definition that one cites"
 
 
 def main() -> int:
-    page = (ROOT / PAGE).read_text(encoding="utf-8")
-    check_tables()
-    check_labels()
-    cited = FILES.all_cited()
-    for name, module in FILES.modules.items():
-        if name.rpartition("/")[2] not in ("Lib", "inner") and f"`{name}.antt" not in page:
-            fault(PAGE, f"{module.path} isn't named")
-        for it in module.definitions:
-            if f"{name}:{it}" not in cited:
-                fault(module.path, f"neither a contract cites {it} nor a definition that one cites")
-    return told(FAULTS)
+    return told([*faults_of_tables(), *faults_of_definitions()])

@@ -81,15 +81,15 @@ class Cells:
 
     def __init__(self, files: Files) -> None:
         self.files = files
+        self.finders: dict[str, Callable[[str, str], Iterable[Mention]]] = {
+            "Definition": self.definitions, "Contract": self.contracts, "Code": self.codes, "Proof": self.proofs,
+            "Wrong body": self.edits,
+        }
 
     def mentions(self, row: Row) -> Iterator[tuple[str, Mention]]:
         """What a row names: pairs of a heading and a mention."""
         yield "rule", Mention(PAGE, row.number, row.rule)
-        finders = {
-            "Definition": self.definitions, "Contract": self.contracts, "Code": self.codes, "Proof": self.proofs,
-            "Wrong body": self.edits,
-        }
-        for column, find in finders.items():
+        for column, find in self.finders.items():
             for item in items_in(row.cells[column]):
                 name, _, rest = item.partition(": ")
                 yield from ((column.lower(), mention) for mention in find(name, rest))
