@@ -2,72 +2,13 @@
 the crates.
 """
 
-import re
-from pathlib import Path
-from typing import Iterator
-
 from cdc6600.crates.crate import EDITS, Crate, crates
+from cdc6600.crates.definitions import imported, modules
 from cdc6600.crates.source import Item
 from cdc6600.shared.program import ROOT
 
-IMPORT = re.compile(r"use Rattle\.[a-z_0-9]+\.specs\.[A-Za-z]")
-DEFINES = re.compile(r"(?:(?:abbrev|unfoldable) )?pub (?!mod |use )(?:(?:record|data) )?([A-Za-z_0-9]+)")
-NAME = re.compile(r"[A-Za-z_][A-Za-z_0-9]*(?:\.[A-Za-z_0-9]+)*")
 PARTS = ("src", "specs", "proofs", *EDITS)
 BY_HAND = ("Answers.antt", "Invariants.antt", "Proof.antt")
-
-
-def imported(line: str) -> tuple[dict[str, str], dict[str, str]]:
-    """What a `use` of definitions brings in: each name with its definition, as `machine/Tokens:is_live`, and a name for
-    a module with that module."""
-    if not IMPORT.search(line) or ".specs.declared." in line:
-        return {}, {}
-    path = re.sub(r";? *$", "", re.sub(r"^ *(ghost )?use Rattle\.", "", line)).replace(".specs.", "/", 1)
-    module, _, names = path.partition(".{")
-    if not names:
-        module, _, alias = path.partition(" as ")
-        return {}, {alias: module.replace(".", "/")} if alias else {}
-    pairs = [name.strip().partition(" as ") for name in names.rpartition("}")[0].split(",")]
-    return {alias or name: f"{module.replace('.', '/')}:{name}" for name, _, alias in pairs}, {}
-
-
-class Module:
-    """A file of definitions: its name, as `machine/Tokens`, what it brings in, and each definition with its lines and
-    the number of its first line."""
-
-    def __init__(self, file: Path) -> None:
-        self.path = str(file.relative_to(ROOT))
-        self.name = self.path.removeprefix("crates/").replace("/specs/", "/", 1).removesuffix(".antt")
-        self.bound, self.alias = dict[str, str](), dict[str, str]()
-        self.definitions, self.numbers, current = dict[str, str](), dict[str, int](), None
-        for number, line in enumerate(file.read_text(encoding="utf-8").split("\n"), 1):
-            if line.startswith("use "):
-                bound, alias = imported(line)
-                self.bound.update(bound)
-                self.alias.update(alias)
-            elif not line.lstrip(" ").startswith("--"):
-                found = DEFINES.match(line)
-                current = found[1] if found else current
-                self.add(current, line, number)
-
-    def add(self, name: str | None, line: str, number: int) -> None:
-        """Adds a line of this number to a definition."""
-        if name:
-            self.numbers.setdefault(name, number)
-            self.definitions[name] = f"{self.definitions.get(name, '')} {line}"
-
-    def named_in(self, name: str) -> Iterator[str]:
-        """What the lines of a definition name, each as `machine/Tokens:is_live`; some are no definitions."""
-        text = self.definitions[name]
-        for found in NAME.finditer(text):
-            word, _, rest = found[0].partition(".")
-            # A field or a variable that is given its value or its type names no definition.
-            if re.match(" [=:] ", text[found.end() :]):
-                continue
-            if rest and word in self.alias:
-                yield f"{self.alias[word]}:{rest.partition('.')[0]}"
-            else:
-                yield self.bound.get(word, f"{self.name}:{word}")
 
 
 class Files:
@@ -75,12 +16,12 @@ class Files:
 
     def __init__(self) -> None:
         found = crates()
-        self.modules = {it.name: it for crate in found for it in map(Module, crate.files("specs"))}
+        self.modules = {name: it for crate in found for name, it in modules(crate.folder).items()}
         self.functions, self.cited = dict[tuple[str, str], Item](), list[str]()
         self.paths, self.by_hand = set[str](), dict[tuple[str, str], str]()
         for source in (source for crate in found for source in crate.sources):
             self.functions.update({(source.path, it.label): it for it in source.functions})
-            self.cited += [name for line in source.lines for name in imported(line)[0].values()]
+            self.cited += imported(source.text)[0].values()
         for crate in found:
             self.add_paths(crate)
 

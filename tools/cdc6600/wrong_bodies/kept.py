@@ -27,7 +27,7 @@ HEAD = """\
 # checksum of the verdict's inputs, and the verdict with the goal or the case that decided it.
 """
 # Increased when bodies are judged in another way, so that no older verdict is valid.
-RULES = 1
+RULES = 2
 COMMENT = re.compile(r"\s*(//|--|$)")
 ROW = re.compile(r"([^\s#]+) (\w+) (\w+) ([^:]+): (.*)")
 SUM = re.compile(r"sum (\w+), (.*)")

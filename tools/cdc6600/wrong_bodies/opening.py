@@ -12,18 +12,16 @@ else.
 """
 
 import re
-from dataclasses import dataclass
 from functools import lru_cache
 from pathlib import Path
 from typing import Container, Iterable, Iterator
 
+from cdc6600.crates.definitions import Module, imported, modules
 from cdc6600.crates.source import DECLARES, Item, Sources, first_above
 from cdc6600.crates.table import Table
 
 LIMIT = 40
-USE = re.compile(r"^\s*(?:pub )?(?:ghost )?use (Rattle(?:\.\w+)*)\.\{([^}]*)\}", re.MULTILINE)
 WORD = re.compile(r"[^\W\d][\w'-]*")
-DECLARATION = re.compile(r"(?:(abbrev|unfoldable) )?(?:pub )?(?:record |data )?([^\W\d][\w'-]*)")
 ATTRIBUTE = re.compile(r"\s*#\[tactic\(auto\b(.*)\)\]$")
 LIST = re.compile(r"(using|unfolding)\(([^)]*)\)")
 # What a type's declaration says of its values, and what its `Model` does.
@@ -33,47 +31,6 @@ TYPE = re.compile(
 SAID = re.compile(r"ghost (?!use\b).*?\}[,;]$", re.MULTILINE | re.DOTALL)
 # The attribute's paths are made of the names of Rust.
 RUST = re.compile(r"\w+")
-
-
-@dataclass
-class Definition:
-    """A definition of specs/: whether it is closed, and the definitions that it names."""
-
-    is_closed: bool
-    names: set[tuple[str, str]]
-
-
-def imported(text: str) -> dict[str, tuple[str, str]]:
-    """What the `use` lines of a text bring in: for each word the module and the name that it has there."""
-    found: dict[str, tuple[str, str]] = {}
-    for module, words in USE.findall(text):
-        for word in words.split(","):
-            name, _, alias = word.strip().partition(" as ")
-            found[alias or name] = module, name
-    return found
-
-
-@lru_cache(None)
-def definitions(folder: Path) -> dict[tuple[str, str], Definition]:
-    """The definitions of a crate's specs/, by their module and name."""
-    found: dict[tuple[str, str], Definition] = {}
-    for file in sorted(Path(folder, "specs").rglob("*.antt")):
-        module = ".".join(["Rattle", folder.name, *file.relative_to(folder).with_suffix("").parts])
-        text = re.sub(r"--[^\n]*", "", file.read_text(encoding="utf-8"))
-        known = imported(text) | {name: (module, name) for _, name, _ in pieces(text)}
-        for is_closed, name, piece in pieces(text):
-            new = found.setdefault((module, name), Definition(False, set()))
-            new.is_closed |= is_closed
-            new.names |= {known[word] for word in WORD.findall(piece) if word in known}
-    return found
-
-
-def pieces(text: str) -> Iterator[tuple[bool, str, str]]:
-    """The signatures and equations of a file: whether each says `unfoldable`, its name, and its text."""
-    for piece in re.split(r"\n(?=\S)", text):
-        found = DECLARATION.match(piece)
-        if found and found[2] not in ("use", "mod", "pub"):
-            yield found[1] == "unfoldable", found[2], piece
 
 
 @lru_cache(None)
@@ -100,31 +57,31 @@ class Opening:
         names = [crate, *(name for name in table.uses[crate] if name in table.lines)]
         self.folder, self.folders = table.folder(crate), [table.folder(name) for name in names]
 
-    def named(self, item: Item, source: Sources, called: Container[str]) -> list[tuple[str, str]]:
+    def named(self, item: Item, source: Sources, called: Container[str]) -> list[str]:
         """The definitions that the goals of a body may name at first: those of its contract come first."""
         texts = [(source, item.path, head(item)), *((source, *found) for found in invariants(item, source))]
         for other in map(source_of, self.folders):
             texts += [(other, it.path, head(it)) for it in other.functions() if it.name in called]
-        found: list[tuple[str, str]] = []
+        found = list[str]()
         for its, path, text in texts:
-            known = imported(its.texts[path])
+            known, _ = imported(its.texts[path])
             found += [known[word] for word in WORD.findall(text) if word in known]
         return list(dict.fromkeys(found))
 
     def of(self, item: Item, source: Sources, called: Container[str]) -> tuple[str, ...]:
         """The paths, as the attribute names them, of what is opened for a body that calls these names."""
-        known: dict[tuple[str, str], Definition] = {}
-        for folder in self.folders:
-            known |= definitions(folder)
-        found = self.named(item, source, called)
-        for name in found:  # it grows on the way
-            found += sorted(known[name].names - set(found)) if name in known else []
-        closed = [name for name in found if name in known and known[name].is_closed and RUST.fullmatch(name[1])]
-        return tuple(self.path(*name) for name in closed[:LIMIT])
+        known: dict[str, tuple[Module, str]] = {}
+        for module in (it for folder in self.folders for it in modules(folder).values()):
+            known |= {f"{module.name}:{name}": (module, name) for name in module.definitions}
+        found = [name for name in self.named(item, source, called) if name in known]
+        for module, name in map(known.__getitem__, found):  # it grows on the way
+            found += sorted(set(module.named_in(name)) & known.keys() - set(found))
+        closed = [it for it in found if known[it][0].is_closed(known[it][1]) and RUST.fullmatch(known[it][1])]
+        return tuple(map(self.path, closed[:LIMIT]))
 
-    def path(self, module: str, name: str) -> str:
-        _, crate, *steps = module.split(".")
-        return "::".join(["crate" if crate == self.folder.name else crate, *steps, name])
+    def path(self, name: str) -> str:
+        crate, *steps = re.split("[/:]", name)
+        return "::".join(["crate" if crate == self.folder.name else crate, "specs", *steps])
 
 
 def attributes_of(item: Item, lines: list[str]) -> list[str]:
