@@ -8,9 +8,7 @@ Run it after a change of it, or of the kit.
 
 from __future__ import annotations
 
-import os
 import re
-import shutil
 from pathlib import Path
 from typing import Any, Sequence
 
@@ -328,8 +326,7 @@ def test_what_rests_on_a_step_is_found(tiny: Tiny) -> None:
 
 def runs(root: Path, *words: str) -> Ended:
     """How the runner ends on a workspace."""
-    environment = {**os.environ, "XDG_CACHE_HOME": f"{root}/cache"}
-    return called("tools/wrong-bodies", "--root", root, "--at-once", "1", *words, env=environment, minutes=60)
+    return called("tools/wrong-bodies", "--root", root, "--at-once", "1", *words, minutes=60)
 
 
 def has_line(ran: Ended, begin: str, part: str = "") -> bool:
@@ -375,29 +372,22 @@ def test_fault_of_another_is_not_told(tmp_path: Path) -> None:
     assert has_line(ran, *SAID["adds_two"]) and has_line(ran, "NOT REFUSED tiny/no_such_name: ", "error[")
 
 
-def test_what_was_tried_is_kept(tmp_path: Path) -> None:
-    """A run tries what an earlier one of the user hasn't, as long as what it depends on is the same."""
-    write_edits(tmp_path, {"adds_two": REFUSED["adds_two"]})
-    assert [tried(runs(tmp_path)) for _ in range(2)] == [["tiny/adds_two"], []]
-    add_to(tmp_path / CRATE / "src/lib.rt", "\n// No code.\n")
-    assert [tried(runs(tmp_path)), tried(runs(tmp_path, "--anew", "tiny"))] == [[], ["tiny/adds_two"]]
-    add_to(tmp_path / CRATE / "specs/After.antt", "\npub once_more : ℕ → ℕ\nonce_more x = x\n")
-    assert tried(runs(tmp_path)) == ["tiny/adds_two"]
-
-
 def test_table_is_rested_on(tmp_path: Path) -> None:
-    """Only those are tried for which something has changed since the table was written, by whoever."""
+    """Only those are tried for which something has changed since the table was written."""
     names = [f"tiny/{name}" for name in ("adds_two", "larger_of_two")]
     write_edits(tmp_path, {name.removeprefix("tiny/"): REFUSED[name.removeprefix("tiny/")] for name in names})
-    assert tried(runs(tmp_path, "--write")) == names
-    shutil.rmtree(tmp_path / "cache")
+    assert [tried(runs(tmp_path)), tried(runs(tmp_path, "--write", "tiny"))] == [names, names]
+    add_to(tmp_path / CRATE / "src/lib.rt", "\n// No code.\n")
     ran = runs(tmp_path)
     assert tried(ran) == [] and ran.lines[-3:-1] == [f"2 verdicts are those of {ROWS}", counted(2)]
+    assert tried(runs(tmp_path, "--all")) == names
     rows = {row.body: verdict.words for row, verdict in read_rows(tmp_path).items()}
     assert [*rows] == names and rows[names[0]] == "`returns` of plus_one"
     edit = "file: src/lib.rt\nold:     x + 1\nnew:     x + 3\n"
     (tmp_path / CRATE / "wrong-bodies/adds_two.edit").write_text(edit, encoding="utf-8")
     assert tried(runs(tmp_path)) == [names[0]]
+    add_to(tmp_path / CRATE / "specs/After.antt", "\npub once_more : ℕ → ℕ\nonce_more x = x\n")
+    assert tried(runs(tmp_path)) == names
     file = tmp_path / ROWS
     file.write_text(file.read_text(encoding="utf-8").replace("`returns` of", "`first` of"), encoding="utf-8")
     told = f"tools/wrong-bodies: {ROWS}: it isn't as `tools/wrong-bodies --write` has written it"

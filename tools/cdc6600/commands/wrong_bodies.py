@@ -2,9 +2,8 @@
 
     tools/wrong-bodies              tries the bodies that have no valid row in docs/proof/all-wrong-bodies.txt
     tools/wrong-bodies CRATE..      tries those of these crates
-    tools/wrong-bodies --write      also writes the rows of each crate of which no body is let through
+    tools/wrong-bodies --write      also writes the rows, each time that a crate is done
     tools/wrong-bodies --all        ignores the rows
-    tools/wrong-bodies --anew       ignores the verdicts of this user's earlier runs
     tools/wrong-bodies --prover     asks the prover alone, and runs no body
 
 A wrong body is an edit in crates/NAME/wrong-bodies/ or crates/NAME/must-fail/. `rt ci` also tries the promised bodies
@@ -39,7 +38,7 @@ from cdc6600.crates.table import Table, Unreadable
 from cdc6600.refuting.running import refute, unsure_in
 from cdc6600.shared.program import ROOT
 from cdc6600.wrong_bodies.edits import UNSURE
-from cdc6600.wrong_bodies.kept import ROWS, Kept, read_rows, write_rows
+from cdc6600.wrong_bodies.kept import ROWS, Inputs, read_rows, write_rows
 from cdc6600.wrong_bodies.tries import Crate, Tries, read_crate
 from cdc6600.wrong_bodies.verdicts import CANT_TELL, NOT_REFUSED, Verdict
 
@@ -49,7 +48,6 @@ def arguments() -> argparse.Namespace:
     parser.add_argument("crates", nargs="*", metavar="CRATE", help="a crate of crates.txt; none: all of them")
     parser.add_argument("--write", action="store_true", help=f"write {ROWS}")
     parser.add_argument("--all", action="store_true", help="ignore its rows")
-    parser.add_argument("--anew", action="store_true", help="ignore the verdicts of earlier runs")
     parser.add_argument("--prover", action="store_true", help="ask the prover alone")
     parser.add_argument("--at-once", type=int, default=host.places(), metavar="N",
                         help="how many checks run side by side (default: as the machine allows)")
@@ -82,8 +80,11 @@ def not_refused(crate: Crate) -> list[str]:
     return lines
 
 
-def report(crate: Crate) -> None:
-    """Prints what the prover found of each of a crate's bodies, but for those of which it can't tell."""
+def report(crate: Crate, given: argparse.Namespace) -> None:
+    """Prints what the prover found of each of a crate's bodies, but for those of which it can't tell, and writes it if
+    that is asked for."""
+    if given.write:
+        write_table(given.root, [crate])
     for line in not_refused(crate):
         print(f"NOT REFUSED {line}", flush=True)
     for body in (body for group in crate.groups for body in group.bodies):
@@ -118,27 +119,30 @@ def try_all(table: Table, crates: Sequence[Crate], given: argparse.Namespace) ->
         tries = Tries(table, crates, room, given.at_once)
         for crate in crates:
             if not crate.groups:
-                report(crate)
-        tries.run(report)
+                report(crate, given)
+        tries.run(lambda crate: report(crate, given))
 
 
-def write_table(root: Path, crates: Iterable[Crate]) -> None:
-    """Replaces the rows of each crate of which no body is let through."""
+def write_table(root: Path, crates: Sequence[Crate]) -> None:
+    """Replaces the rows of these crates. A body that is let through has none."""
     described = subprocess.run(["git", "-C", str(root), "describe", "--always", "--dirty"], capture_output=True,
                                text=True, check=False)
     words = " ".join(["tools/wrong-bodies", *sys.argv[1:]])
-    found = [crate for crate in crates if not not_refused(crate)]
-    tried = {f"{crate.name}/" for crate in found}
-    rows = {row: its for row, its in read_rows(root).items() if f"{row.body.partition('/')[0]}/" not in tried}
-    rows |= {it.kept.row(body): it.verdicts[body.name] for it in found for body in [*it.rested, *it.bodies]}
-    write_rows(root, rows, f"`{words}` of {described.stdout.strip() or 'no commit'} on {date.today()}")
+    names, before = {crate.name for crate in crates}, read_rows(root)
+    rows = {row: verdict for row, verdict in before.items() if row.body.partition("/")[0] not in names}
+    for crate, body in ((crate, body) for crate in crates for body in [*crate.rested, *crate.bodies]):
+        verdict = crate.verdicts.get(body.name)
+        if verdict and verdict.kind != NOT_REFUSED:
+            rows[crate.inputs.row(body)] = verdict
+    if rows != before:
+        write_rows(root, rows, f"`{words}` of {described.stdout.strip() or 'no commit'} on {date.today()}")
 
 
 def work() -> int:
     given = arguments()
     table, rows = Table(given.root), {} if given.all else read_rows(given.root)
     number = logic()
-    crates = [read_crate(table, it, Kept(table, it, number, rows, given.anew), given)
+    crates = [read_crate(table, it, Inputs(table, it, number), rows, not given.prover)
               for it in chosen(table, given.crates)]
     try_all(table, crates, given)
     if not given.prover:

@@ -6,7 +6,9 @@ from pathlib import Path
 from typing import Iterator
 
 # A line that brings in definitions by their names, or a module by a name for it.
-USE = re.compile(r"^ *(?:pub )?(?:ghost )?use Rattle\.(\w+)\.specs\.([\w.]+?)(?:\.\{([^}]*)\}| as (\w+));?$", re.MULTILINE)
+USE = re.compile(
+    r"^ *(?:pub )?(?:ghost )?use Rattle\.(\w+)\.specs\.([\w.]+?)(?:\.\{([^}]*)\}| as (\w+));?$", re.MULTILINE
+)
 COMMENT = re.compile(r"--[^\n]*")
 DEFINES = re.compile(r"(?:(?:abbrev|unfoldable) )?pub (?!mod |use )(?:(?:record|data) )?([^\W\d][\w'-]*)")
 NAME = re.compile(r"[^\W\d][\w'-]*(?:\.[\w'-]+)*")

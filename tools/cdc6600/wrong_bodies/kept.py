@@ -1,15 +1,12 @@
-"""Keeps the verdicts on wrong bodies. A run tries a body again only after a change that may alter its verdict.
+"""The table of verdicts on wrong bodies. A run tries a body again only after a change that may alter its verdict.
 
 A verdict is valid for a checksum of its inputs: the edit, the sources, definitions and proofs of the crate, and the
 contracts and definitions of the crates below. Comments and tests are no inputs. The table
-docs/proof/all-wrong-bodies.txt has verdicts, each with the number of the kit's logic. Each run also keeps its verdicts
-in the user's cache folder, so that an interrupted run can continue.
+docs/proof/all-wrong-bodies.txt has verdicts, each with the number of the kit's logic.
 """
 
 import hashlib
-import os
 import re
-from contextlib import suppress
 from functools import cache
 from pathlib import Path
 from typing import Iterable, Iterator, NamedTuple
@@ -107,41 +104,20 @@ def read_rows(root: Path) -> Rows:
 
 
 def write_rows(root: Path, rows: Rows, call: str) -> None:
-    """Writes the table, with the command that found its rows."""
-    lines = lines_of(rows)
-    write(root / ROWS, HEAD + "".join(f"{line}\n" for line in [*lines, f"sum {sum_of(*lines, call)}, {call}"]))
+    """Writes the table whole, or not at all, with the command that found its rows."""
+    file, lines = root / ROWS, lines_of(rows)
+    lines.append(f"sum {sum_of(*lines, call)}, {call}")
+    file.parent.mkdir(parents=True, exist_ok=True)
+    part = file.with_suffix(".new")
+    part.write_text(HEAD + "".join(f"{line}\n" for line in lines), encoding="utf-8")
+    part.replace(file)
 
 
-def write(file: Path, text: str) -> None:
-    """Writes a file whole, or not at all."""
-    with suppress(OSError):
-        file.parent.mkdir(parents=True, exist_ok=True)
-        part = file.with_suffix(f".{os.getpid()}")
-        part.write_text(text, encoding="utf-8")
-        part.replace(file)
+class Inputs:
+    """The inputs of the verdicts on a crate's bodies, by their checksums."""
 
-
-class Kept:
-    """The known verdicts on a crate's bodies: rows of the table, and verdicts of this user's earlier runs."""
-
-    def __init__(self, table: Table, crate: str, logic: str, rows: Rows, is_anew: bool) -> None:
-        folder = Path(os.environ.get("XDG_CACHE_HOME") or Path.home() / ".cache") / "dohikewa" / "wrong-bodies"
-        self.crate, self.logic, self.rows, self.of_crate = crate, logic, rows, sum_of_crate(table, crate)
-        self.file = folder / f"{crate}.txt"
-        self.found = Rows() if is_anew else rows_in(self.file)[0]
+    def __init__(self, table: Table, crate: str, logic: str) -> None:
+        self.crate, self.logic, self.of_crate = crate, logic, sum_of_crate(table, crate)
 
     def row(self, body: Body) -> Row:
         return Row(f"{self.crate}/{body.name}", self.logic, sum_of(self.of_crate, body.text))
-
-    def by_row(self, body: Body) -> Verdict | None:
-        """The verdict of the table, if it is still valid."""
-        return self.rows.get(self.row(body))
-
-    def by_run(self, body: Body) -> Verdict | None:
-        """The verdict of an earlier run of this user."""
-        return self.found.get(self.row(body))
-
-    def keep(self, body: Body, verdict: Verdict) -> None:
-        """Writes a verdict at once. If the file can't be written, a later run tries the body again."""
-        self.found[self.row(body)] = verdict
-        write(self.file, "".join(f"{line}\n" for line in lines_of(self.found)))

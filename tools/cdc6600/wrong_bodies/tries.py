@@ -9,7 +9,6 @@ of its own. What a check doesn't change it assumes (assumed.py), so no group wai
 
 import tempfile
 import threading
-from argparse import Namespace
 from concurrent.futures import FIRST_COMPLETED, Future, ThreadPoolExecutor, wait
 from dataclasses import dataclass, field
 from pathlib import Path
@@ -23,8 +22,8 @@ from cdc6600.crates.table import Table, Unreadable
 
 from .assumed import assumed
 from .copies import Copy, beside, can_stand_beside, copied, written_folders
-from .edits import LET_THROUGH, Body, applied, read_bodies
-from .kept import Kept
+from .edits import LET_THROUGH, UNSURE, Body, applied, read_bodies
+from .kept import Inputs, Rows
 from .opening import Opening
 from .second import again, copies_again, in_place, right, settled
 from .verdicts import CANT_TELL, NOT_REFUSED, Outcome, Verdict, outcome_of
@@ -60,7 +59,7 @@ class Crate:
 
     name: str
     source: Sources
-    kept: Kept
+    inputs: Inputs
     opening: Opening
     bodies: list[Body] = field(default_factory=list)
     rested: list[Body] = field(default_factory=list)
@@ -74,28 +73,26 @@ class Crate:
     def tell(self, body: Body, verdict: Verdict) -> None:
         with self.lock:
             self.verdicts[body.name] = verdict
-            if verdict.kind != NOT_REFUSED:
-                self.kept.keep(body, verdict)
 
     def spent(self, seconds: float) -> None:
         with self.lock:
             self.seconds += seconds
 
 
-def read_crate(table: Table, name: str, kept: Kept, given: Namespace) -> Crate:
-    """Reads a crate's bodies and their known verdicts. Bodies that the contract lets through are left out if no body is
-    run."""
+def read_crate(table: Table, name: str, inputs: Inputs, rows: Rows, is_run: bool) -> Crate:
+    """Reads a crate's bodies and their known verdicts. A body of which the prover can't tell rests on that only if its
+    edit says why nobody can tell. Bodies that the contract lets through are left out if no body is run."""
     source = Sources.read(table.folder(name))
-    crate = Crate(name, source, kept, Opening(table, name))
+    crate = Crate(name, source, inputs, Opening(table, name))
     bodies, crate.faults = read_bodies(table.folder(name), source)
     for body in bodies:
-        known = kept.by_row(body)
-        if not known and LET_THROUGH in body.notes and given.prover:
-            continue
-        (crate.rested if known else crate.bodies).append(body)
-        known = known or kept.by_run(body)
+        known = rows.get(inputs.row(body))
+        is_rested = known and (known.kind != CANT_TELL or UNSURE in body.notes)
         if not known and LET_THROUGH in body.notes:
             known = Verdict(CANT_TELL, "its contract lets it through")
+            if not is_run:
+                continue
+        (crate.rested if is_rested else crate.bodies).append(body)
         if known:
             crate.verdicts[body.name] = known
     left = [body for body in crate.bodies if body.name not in crate.verdicts]
