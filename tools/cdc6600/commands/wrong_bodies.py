@@ -100,7 +100,7 @@ def run_unsure(table: Table, crates: Sequence[Crate], at_once: int) -> None:
     for crate, body in unsure_in(crates):
         if UNSURE not in body.notes:
             words = f"nothing refutes it, and its edit has no line `{UNSURE}: `"
-            crate.tell(body, Verdict(NOT_REFUSED, words))
+            crate.verdicts[body.name] = Verdict(NOT_REFUSED, words)
             print(f"NOT REFUSED {crate.name}/{body.name}: {words}")
 
 
@@ -150,7 +150,7 @@ def work() -> int:
     unsure = print_unsure(crates)
     for crate in crates:
         if crate.groups:
-            print(f"{crate.name}: {len(crate.groups)} groups, {crate.seconds:.0f} seconds of processor time")
+            print(f"{crate.name}: {len(crate.groups)} groups, {sum(crate.seconds):.0f} seconds of processor time")
     rested, bad = sum(len(crate.rested) for crate in crates), sum(len(not_refused(crate)) for crate in crates)
     total = rested + sum(len(crate.bodies) + len(crate.faults) for crate in crates)
     if given.write:

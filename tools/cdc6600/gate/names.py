@@ -103,40 +103,24 @@ def faults_of_names() -> Iterator[str]:
 # ---- how the comment of a crate begins and ends ----
 
 
-def first_comment(crate: Crate) -> tuple[str, str]:
-    """The path of a crate's first source, and the text of the comment that begins it."""
-    source = next(it for it in crate.sources if it.file.name in ("lib.rt", "main.rt"))
-    lines = [line.removeprefix("//!").strip() for line in source.lines if line.startswith("//!")]
-    return source.path, " ".join(lines)
-
-
-def fault_of_beginning(crate: Crate) -> str | None:
-    """What the first comment of a crate doesn't say, or nothing."""
-    tests = {source.file.stem for it in CRATES.values() for source in it.sources}
-    path, text = first_comment(crate)
-    named = {name for quoted in QUOTED.findall(text) for name in WORD.findall(quoted)}
-    if not SENTENCE.split(text)[-1].startswith("Begin with "):
-        return f"{path}: its first comment doesn't end with the place to begin"
-    if not crate.name.endswith("_tests") and not any(map(OF_TESTS.search, named & tests)):
-        return f"{path}: its first comment doesn't name the file of its tests"
-    return None
-
-
-def faults_of_beginnings() -> list[str]:
+def faults_of_beginnings() -> Iterator[str]:
     """The crates whose first comments break the rule on beginnings."""
-    return [fault for fault in map(fault_of_beginning, CRATES.values()) if fault]
+    tests = {source.file.stem for it in CRATES.values() for source in it.sources}
+    for crate in CRATES.values():
+        source = next(it for it in crate.sources if it.file.name in ("lib.rt", "main.rt"))
+        text = " ".join(line.removeprefix("//!").strip() for line in source.lines if line.startswith("//!"))
+        named = {name for quoted in QUOTED.findall(text) for name in WORD.findall(quoted)}
+        if not SENTENCE.split(text)[-1].startswith("Begin with "):
+            yield f"{source.path}: its first comment doesn't end with the place to begin"
+        elif not crate.name.endswith("_tests") and not any(map(OF_TESTS.search, named & tests)):
+            yield f"{source.path}: its first comment doesn't name the file of its tests"
 
 
 # ---- the parts of names ----
 
 
-def words_of_all() -> set[str]:
-    """The words of all code, with the names of the crates, modules and files of definitions."""
-    of_crates = (said(crate) | declared(crate) | set(TABLE.uses[crate.name]) for crate in CRATES.values())
-    return set(CRATES).union(*of_crates)
-
-
-WORDS = words_of_all()
+# The words of all code, with the names of the crates, modules and files of definitions.
+WORDS = {*CRATES, *(word for it in CRATES.values() for word in said(it) | declared(it) | {*TABLE.uses[it.name]})}
 
 
 def faults_of_parts(name: str, lines: list[str]) -> Iterator[str]:

@@ -73,7 +73,7 @@ class Refuting:
         with ThreadPoolExecutor(self.at_once) as pool:
             for (crate, body), found in zip(left, pool.map(difference, left)):
                 if found:
-                    crate.tell(body, Verdict(REFUTED, found))
+                    crate.verdicts[body.name] = Verdict(REFUTED, found)
                     print(f"{crate.name}/{body.name}: refuted by {found}", flush=True)
 
 

@@ -11,12 +11,12 @@ from functools import cache
 from pathlib import Path
 from typing import Iterable, Iterator, NamedTuple
 
+from cdc6600.building.library import PARTS
 from cdc6600.crates.source import items_of
 from cdc6600.crates.table import Table, Unreadable
 
 from .edits import Body
 from .verdicts import Verdict
-from .workspaces import PARTS
 
 ROWS = "docs/proof/all-wrong-bodies.txt"
 HEAD = """\

@@ -3,12 +3,10 @@
 A group is judged by one check: many copies beside the right bodies, or a body that can't stand so in the place of the
 right one. The bodies that this check refuses are checked once more (second.py).
 
-The libraries below are those that `rt ci` has left, or are proved first. Groups run side by side, each in a workspace
-of its own. What a check doesn't change it assumes (assumed.py), so no group waits for another's work.
+The libraries below are those that `rt ci` has left, or are proved first. Groups run side by side. What a check doesn't
+change it assumes (assumed.py), so no group waits for another's work.
 """
 
-import tempfile
-import threading
 from concurrent.futures import FIRST_COMPLETED, Future, ThreadPoolExecutor, wait
 from dataclasses import dataclass, field
 from pathlib import Path
@@ -21,13 +19,13 @@ from cdc6600.crates.source import Item, Sources, module_of
 from cdc6600.crates.table import Table, Unreadable
 
 from .assumed import assumed
+from .checking import checked
 from .copies import Copy, beside, can_stand_beside, copied, written_folders
 from .edits import LET_THROUGH, UNSURE, Body, applied, read_bodies
 from .kept import Inputs, Rows
 from .opening import Opening
 from .second import again, copies_again, in_place, right, settled
 from .verdicts import CANT_TELL, NOT_REFUSED, Outcome, Verdict, outcome_of
-from .workspaces import Workspace
 
 
 @dataclass
@@ -66,17 +64,7 @@ class Crate:
     groups: list[Group] = field(default_factory=list)
     verdicts: dict[str, Verdict] = field(default_factory=dict)  # by the name of the body
     faults: list[str] = field(default_factory=list)
-    seconds: float = 0.0
-    idle: list[Workspace] = field(default_factory=list)  # the workspaces in which no group is being checked
-    lock: threading.Lock = field(default_factory=threading.Lock)
-
-    def tell(self, body: Body, verdict: Verdict) -> None:
-        with self.lock:
-            self.verdicts[body.name] = verdict
-
-    def spent(self, seconds: float) -> None:
-        with self.lock:
-            self.seconds += seconds
+    seconds: list[float] = field(default_factory=list)  # the processor time of each check
 
 
 def read_crate(table: Table, name: str, inputs: Inputs, rows: Rows, is_run: bool) -> Crate:
@@ -129,52 +117,39 @@ class Tries:
     """The run: the libraries that the crates stand on, and the groups that are left."""
 
     def __init__(self, table: Table, crates: Sequence[Crate], room: str, at_once: int) -> None:
-        self.table, self.room, self.at_once = table, Path(room), at_once
+        self.table, self.at_once = table, at_once
         # The checks of crates that stand on many others are the longest, and come first.
         self.crates = sorted(crates, key=lambda it: -len(table.below(it.name)))
         needed = {name for crate in crates if crate.groups for name in table.below(crate.name)}
         below = [name for name in table.lines if name in needed]
-        self.libraries = left_by_rt_ci(table, below) or (proved(table, below, self.room) if below else {})
+        self.libraries = left_by_rt_ci(table, below) or (proved(table, below, Path(room)) if below else {})
 
-    def workspace_of(self, crate: Crate) -> Workspace:
-        """A workspace for a group's check: one that an earlier group has left, or a new one."""
-        with crate.lock:
-            if crate.idle:
-                return crate.idle.pop()
-        room = tempfile.mkdtemp(prefix=f"{crate.name}-", dir=self.room)
-        return Workspace(self.table, room, crate.name, self.libraries)
-
-    def judge(self, crate: Crate, group: Group) -> None:
-        """Checks a group and tells each body's verdict."""
+    def judged(self, crate: Crate, group: Group) -> dict[str, Verdict]:
+        """The verdict on each body of a group, by its name."""
         try:
-            workspace = self.workspace_of(crate)
-            self.judge_in(workspace, crate, group)
-            with crate.lock:
-                crate.idle.append(workspace)
+            return self.checked_twice(crate, group)
         except (Unreadable, OSError) as fault:
-            for body in group.bodies:
-                crate.tell(body, Verdict(NOT_REFUSED, f"it wasn't tried: {fault}"))
+            return {body.name: Verdict(NOT_REFUSED, f"it wasn't tried: {fault}") for body in group.bodies}
 
-    def judge_in(self, workspace: Workspace, crate: Crate, group: Group) -> None:
-        """Checks a group, and the bodies that this refuses once more. Tells each body's verdict.
+    def checked_twice(self, crate: Crate, group: Group) -> dict[str, Verdict]:
+        """Checks a group, and the bodies that this refuses once more; the verdicts.
 
         A copy that isn't refused is tried again in its place, since the fault may be another's."""
-        found, beside_right = self.outcomes(crate, group, workspace), list[Copy]()
+        found, beside_right = self.outcomes(crate, group), list[Copy]()
         for copy in group.copies:
             if found[copy.body.name].verdict.refused:
                 beside_right.append(copy)
             else:
-                found |= self.outcomes(crate, Group([copy.body]), workspace)
+                found |= self.outcomes(crate, Group([copy.body]))
         verdicts = {name: outcome.verdict for name, outcome in found.items()}
-        verdicts |= self.copies_once_more(crate, beside_right, found, workspace)
-        apart = {copy.body.name for copy in beside_right}
-        for body in group.bodies:
-            if verdicts[body.name].refused and body.name not in apart:
-                verdicts |= self.once_more(crate, body, found[body.name], workspace)
-            crate.tell(body, verdicts[body.name])
+        apart = {body.name for body in group.bodies} - {copy.body.name for copy in beside_right}
+        verdicts |= self.copies_once_more(crate, beside_right, found)
+        for body in (body for body in group.bodies if body.name in apart and verdicts[body.name].refused):
+            verdicts |= self.once_more(crate, body, found[body.name])
+        return verdicts
 
-    def copies_once_more(self, crate: Crate, copies: Sequence[Copy], found: Mapping[str, Outcome],
-                         workspace: Workspace) -> dict[str, Verdict]:
+    def copies_once_more(self, crate: Crate, copies: Sequence[Copy],
+                         found: Mapping[str, Outcome]) -> dict[str, Verdict]:
         """Checks copies that one check refused once more, and returns the verdicts on those for which something can be
         opened or left out."""
         folder = self.table.folder(crate.name)
@@ -184,16 +159,16 @@ class Tries:
             return {}
         changed, rights = copies_again(pairs, crate.source, folder)
         every = [*changed, *rights.values()]
-        outcomes = self.outcomes(crate, Group([copy.body for copy in every], every), workspace)
+        outcomes = self.outcomes(crate, Group([copy.body for copy in every], every))
         if len(pairs) > 1 and not all(outcomes[it.body.name].goals for it, _ in pairs):
             # The check came to no verdict, perhaps for the sake of one of them.
-            each = [self.copies_once_more(crate, [copy], found, workspace) for _, copy in pairs]
+            each = [self.copies_once_more(crate, [copy], found) for _, copy in pairs]
             return {name: verdict for it in each for name, verdict in it.items()}
         names = {key: copy.body.name for key, copy in rights.items()}
         controls = [outcomes.get(names.get(it.body.touched[0].key(), "")) for it, _ in pairs]
         return {it.body.name: settled(it, outcomes[it.body.name], control) for (it, _), control in zip(pairs, controls)}
 
-    def once_more(self, crate: Crate, body: Body, first: Outcome, workspace: Workspace) -> dict[str, Verdict]:
+    def once_more(self, crate: Crate, body: Body, first: Outcome) -> dict[str, Verdict]:
         """Checks a body that one check refused in its place once more, and returns the verdict on it, if something can
         be opened or left out."""
         source, folder = crate.source, self.table.folder(crate.name)
@@ -203,25 +178,25 @@ class Tries:
 
         def outcome(tried: Body, left_out: Sequence[set[tuple[str, str]]]) -> Outcome:
             there, proofs = in_place(it, tried, left_out, source, folder)
-            return self.outcomes(crate, Group([there], proofs=proofs), workspace)[body.name]
+            return self.outcomes(crate, Group([there], proofs=proofs))[body.name]
 
         second = outcome(body, it.left_out)
         if any(it.written):
             control = outcome(right(body, body.name, source), it.answers)
         return {body.name: settled(it, second, control)}
 
-    def outcomes(self, crate: Crate, group: Group, workspace: Workspace) -> dict[str, Outcome]:
+    def outcomes(self, crate: Crate, group: Group) -> dict[str, Outcome]:
         texts, paths = group.texts(crate.source), paths_of(group, crate.source)
         wrong, folder = [] if group.copies else group.functions(), self.table.folder(crate.name)
         files = [file for item in wrong for at in written_folders(item, folder) for file in at.glob("*.antt")]
         proofs = {str(file.relative_to(folder)): file.read_text(encoding="utf-8") for file in files}
         changed = assumed(crate.source, folder, wrong, texts)
-        ran = workspace.check(changed, paths)
-        if paths and ran.status == 2:
-            # The check knows no function of such a path: then it proves all of the crate.
-            crate.spent(ran.seconds)
-            ran = workspace.check(changed, [])
-        crate.spent(ran.seconds)
+        # A check of a path of which it knows no function has the status 2: then all of the crate is proved.
+        for only in ([paths] if not paths else [paths, []]):
+            ran = checked(self.table, crate.name, self.libraries, changed, only)
+            crate.seconds.append(ran.seconds)
+            if ran.status != 2:
+                break
         read = {path: text for path, text in changed.items() if text is not None}
         return group.outcomes(ran, crate.name, {**crate.source.texts, **proofs, **read})
 
@@ -229,14 +204,14 @@ class Tries:
         """Checks the groups side by side, each once there is memory for it. It hands out each crate once all its groups
         are tried."""
         left = [(crate, group) for crate in self.crates for group in crate.groups]
-        busy: dict[Future[None], Crate] = {}
+        busy: dict[Future[dict[str, Verdict]], Crate] = {}
         with ThreadPoolExecutor(self.at_once) as pool:
             while left or busy:
                 while left and len(busy) < self.at_once and (not busy or host.free_memory() >= host.NEEDED):
                     crate, group = left.pop(0)
-                    busy[pool.submit(self.judge, crate, group)] = crate
+                    busy[pool.submit(self.judged, crate, group)] = crate
                 for ended in wait(busy, timeout=10, return_when=FIRST_COMPLETED).done:
                     crate = busy.pop(ended)
-                    ended.result()
+                    crate.verdicts |= ended.result()
                     if all(it is not crate for it in [*busy.values(), *(it for it, _ in left)]):
                         is_tried(crate)
