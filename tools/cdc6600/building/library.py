@@ -81,18 +81,23 @@ def proved(table: Table, names: Sequence[str], room: Path) -> dict[str, Path]:
     return {name: library(copy, name) for name in names}
 
 
+def words_of(table: Table, name: str, libraries: Mapping[str, Path], top: str) -> list[str]:
+    """The words by which the checker reads a crate, from this source on, over the libraries below it."""
+    kit, below = checker().parent.parent, {it: libraries[it] for it in table.below(name)}
+    found = ["--crate-name", name, top]
+    for it in ["std", *table.uses[name]]:
+        found += ["--extern", f"{it}={below.get(it, kit / f'rlibs/{it}.rlib')}"]
+    for place in dict.fromkeys([*(file.parent for file in below.values()), kit / "rlibs"]):
+        found += ["-L", f"dependency={place}"]
+    return [*found, "--logic-built", f"{kit}/logic_built", "--antt-project", f"{kit}/rattle/logic/antt-project.json"]
+
+
 def built(table: Table, name: str, below: Mapping[str, Path], made: Path, words: Iterable[str]) -> Path:
     """Proves a crate over the libraries below it, and builds it into a file by the checker's further words; the file.
 
     Raises Unproved with the end of what the checker said, if it isn't proved."""
-    kit, said = checker().parent.parent, [str(checker()), "build", "--crate-name", name]
-    said.append(str(table.folder(name) / "src/lib.rt"))
-    for it in ["std", *table.uses[name]]:
-        said += ["--extern", f"{it}={below.get(it, kit / f'rlibs/{it}.rlib')}"]
-    for folder in {*(file.parent for file in below.values()), kit / "rlibs"}:
-        said += ["-L", f"dependency={folder}"]
-    said += ["--logic-built", f"{kit}/logic_built", "--antt-project", f"{kit}/rattle/logic/antt-project.json"]
-    ran = run([*said, *words, "-o", str(made)], made.parent)
+    said = words_of(table, name, below, str(table.folder(name) / "src/lib.rt"))
+    ran = run([str(checker()), "build", *said, *words, "-o", str(made)], made.parent)
     lines = [line for line in ran.said.rstrip().split("\n") if not line.startswith("statements ")]
     verdict = lines[-1] if lines[-1].startswith("logic=proved ") else ""
     if ran.status or not verdict or EXCUSES.search(verdict):
