@@ -12,8 +12,9 @@
   pages. In the sources of tools and tests this holds for tools, tests and pages, since these sources name decks and
   crates that they make. NAME stands for any name, and so does the crate in `crates/crate/`; `*` has to match something.
 - Links: the target of a link in a page is there, with the section if one is named. Targets in the web aren't looked up.
+- Examples: each block of Rust in docs/work/threads.md is in the test that it is from.
 
-Run it after a change of names, or of where files are.
+Run it after a change of names, of where files are, or of that page or test.
 """
 
 import re
@@ -55,6 +56,8 @@ ANY_NAME = "Type::function"
 KINDS = (".rt", ".antt", ".edit", ".h", ".c", ".rs", ".py")
 LINK = re.compile(r"\]\(([^)\s]+)\)")
 ELSEWHERE = re.compile(r"[a-z]+:")
+EXAMPLES, OF_EXAMPLES = "docs/work/threads.md", "crates/lock_tests/src/example_tests.rt"
+RUST = re.compile(r"^```rust\n(.*?)^```$", re.MULTILINE | re.DOTALL)
 
 # How the names of files of tests end.
 OF_TESTS = re.compile(r"_(?:tests|schedules)$")
@@ -184,8 +187,16 @@ def faults_of_links(page: str, lines: list[str]) -> Iterator[str]:
                 yield f"{page}:{number}: the link leads to no section: {target}"
 
 
+def faults_of_examples() -> Iterator[str]:
+    """The blocks of Rust that their test doesn't have."""
+    text, source = ((ROOT / path).read_text(encoding="utf-8") for path in (EXAMPLES, OF_EXAMPLES))
+    for found in RUST.finditer(text):
+        if found[1] not in source:
+            yield f"{EXAMPLES}:{text[: found.start()].count(chr(10)) + 1}: {OF_EXAMPLES} hasn't this block"
+
+
 def main() -> int:
-    faults, pages = [*faults_of_names(), *faults_of_beginnings()], tracked("*.md")
+    faults, pages = [*faults_of_names(), *faults_of_beginnings(), *faults_of_examples()], tracked("*.md")
     for name in [path for path in tracked("crates", "tools", "tests", "bench") if path.endswith(KINDS)] + pages:
         lines = (ROOT / name).read_text(encoding="utf-8").split("\n")
         faults += faults_of_paths(name, lines)

@@ -9,8 +9,7 @@ from cdc6600.shared.program import ROOT
 
 TESTS = "tests"
 # They look at sources and pages alone, and take seconds.
-SMALL = ("definitions", "generated", "examples", "sizes", "limits", "names", "layout", "readings", "edits", "style",
-         "where")
+SMALL = ("definitions", "generated", "sizes", "limits", "names", "layout", "readings", "edits", "style", "where")
 # They try the tools that prove and that try wrong bodies, on small workspaces.
 BODIES = "wrong-bodies"
 BUILDING = ("spent-tokens", "build-program")
