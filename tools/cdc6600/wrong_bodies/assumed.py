@@ -41,16 +41,18 @@ def assumed(source: Sources, folder: Path, wrong: Iterable[Item], texts: Mapping
         proof = PROOF.format(folder.name, steps, item.name, item.name)
         proofs[str((own / "Proof.antt").relative_to(folder))] = proof
         given.setdefault(item.path, set()).add(item.key())
-    changed = {path: without_bodies(path, texts.get(path, source.texts[path]), keys) for path, keys in given.items()}
+    changed = {path: without_bodies(path, texts.get(path, source.texts[path]), ["unreachable!()"], keys)
+               for path, keys in given.items()}
     return {**proofs, **texts, **changed}
 
 
-def without_bodies(path: str, text: str, keys: Container[tuple[str, str, str]]) -> str:
-    """The text of a source in which the functions of these keys do nothing."""
+def without_bodies(path: str, text: str, body: Iterable[str],
+                   keys: Container[tuple[str, str, str]] | None = None) -> str:
+    """The text of a source in which all functions, or those of these keys, have the lines of this body."""
     lines = text.split("\n")
     for item in reversed(items_of(path, text)):
-        if item.kind == "function" and item.key() in keys and item.size:
-            lines[item.body_start + 1 : item.last] = [f"{item.indentation}    unreachable!()"]
+        if item.kind == "function" and item.size and (keys is None or item.key() in keys):
+            lines[item.body_start + 1 : item.last] = [f"{item.indentation}    {line}" for line in body]
     return "\n".join(lines)
 
 

@@ -12,9 +12,9 @@ from pathlib import Path
 from typing import Iterable, Iterator, NamedTuple
 
 from cdc6600.building.library import PARTS
-from cdc6600.crates.source import items_of
 from cdc6600.crates.table import Table, Unreadable
 
+from .assumed import without_bodies
 from .edits import Body
 from .verdicts import Verdict
 
@@ -34,21 +34,12 @@ def sum_of(*texts: str) -> str:
     return hashlib.sha256("\0".join(texts).encode()).hexdigest()[:24]
 
 
-def without_bodies(path: str, text: str) -> str:
-    """A source without the bodies of its functions."""
-    lines = text.split("\n")
-    for item in reversed(items_of(path, text)):
-        if item.kind == "function" and item.size:
-            del lines[item.body_start + 1 : item.last]
-    return "\n".join(lines)
-
-
 def text_of(folder: Path, parts: Iterable[str], has_bodies: bool) -> Iterator[str]:
     """The paths and texts of a crate in these folders, without comments and tests."""
     for file in (file for part in parts for file in sorted((folder / part).rglob("*")) if file.is_file()):
         if "test" not in file.name:
             path, text = str(file.relative_to(folder)), file.read_text(encoding="utf-8")
-            text = text if has_bodies or file.suffix != ".rt" else without_bodies(path, text)
+            text = text if has_bodies or file.suffix != ".rt" else without_bodies(path, text, [])
             yield from (path, *(line for line in text.split("\n") if not COMMENT.match(line)))
 
 
