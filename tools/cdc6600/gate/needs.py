@@ -1,8 +1,8 @@
 """Tries the programs and modules that the checks need, by `tools/check --needs`, on a machine that was just set up.
 
-Each program of tools/debian-packages that is installed does a small piece of work, and the checks that aren't left out
-are imported, by pytest if they are tests. So it is seen in two minutes, before anything is proved, whether a check
-would fail for want of a program, a module or a header.
+Each program of tools/debian-packages that is installed does a small piece of work, and so does the kit. The checks that
+aren't left out are imported, by pytest if they are tests. So it is seen in two minutes, before anything is proved,
+whether a check would fail for want of a program, a module or a header.
 """
 
 import os
@@ -12,8 +12,6 @@ import tempfile
 from typing import Sequence
 
 from cdc6600.checks.debian import MODULES, needed, python_with
-from cdc6600.crates.kit import kit
-from cdc6600.crates.table import Unreadable
 from cdc6600.shared.program import ROOT
 
 from .parts import file_of, is_test, module
@@ -23,8 +21,6 @@ COMPILED = {
     "cc": ("#include <stdio.h>\nint main(void) { return puts(\"\") < 0; }\n", '${CC:-cc} -x c -o "$0" - && "$0"'),
     "rustc": ("fn main() {}\n", 'rustc -o "$0" - && "$0"'),
 }
-# A module of types, which can't be imported.
-TYPES = ("gdb-stubs",)
 # Nothing is built for an import.
 NOT_BUILT = {"CDC6600": "/bin/true", "CDC6600_LIBRARY": "/nonexistent"}
 
@@ -43,8 +39,6 @@ def ran(words: Sequence[str], text: str = "") -> str | None:
 
 def fault_of_program(name: str) -> str | None:
     """Why a program of the list can't do its work, or None if it can."""
-    if name in MODULES:
-        return None if name in TYPES else ran([python_with(*MODULES[name]), "-c", f"import {name}"])
     if name not in COMPILED:
         return ran([name, "--version"])
     text, line = COMPILED[name]
@@ -52,20 +46,12 @@ def fault_of_program(name: str) -> str | None:
         return ran(["sh", "-c", line, f"{room}/made"], text)
 
 
-def fault_of_kit() -> str | None:
-    """Why the kit can't be used, or None if it can."""
-    try:
-        kit()
-    except Unreadable as fault:
-        return str(fault)
-    return None
-
-
 def tried(names: list[str]) -> tuple[int, int]:
     """How much of what these checks need is there, and how much isn't. Each fault is printed."""
     collecting = [python_with("pytest"), "-m", "pytest", "--collect-only", "-p", "no:cacheprovider"]
     modules = ", ".join(module(name) for name in names if not is_test(name))
-    found = {"rt": fault_of_kit(), **{it.program: fault_of_program(it.program) for it in needed() if it.is_installed()},
+    programs = [it.program for it in needed() if it.is_installed() and it.program not in MODULES]
+    found = {"rt": ran(["rt", "version"]), **{name: fault_of_program(name) for name in programs},
              "the checks": ran([sys.executable, "-c", f"import {modules}"]),
              "the tests": ran([*collecting, *(file_of(name) for name in names if is_test(name))])}
     for name, fault in found.items():
