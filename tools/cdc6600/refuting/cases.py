@@ -37,32 +37,24 @@ PROMPT, NAMED = "$ ", "./cdc6600"
 
 @dataclass(frozen=True)
 class Ran:
-    """How a run ended: its status, negative if a signal ended it and none if it had no end, and what it wrote."""
+    """How a run ended: what it wrote, and its status, negative if a signal ended it."""
 
-    status: int | None
+    status: int
     printed: bytes
     told: bytes
 
+    def lines(self) -> list[str]:
+        """What it wrote, and how it ended, in lines that may be printed."""
+        ends = {TIMED_OUT: f"no end in {SECONDS} seconds", -signal.SIGSEGV: "a fault of memory"}
+        text = (self.printed + self.told).decode("ascii", "replace")
+        return [*text.splitlines(), ends.get(self.status, f"status {self.status}")]
+
     def differs(self, right: "Ran") -> str | None:
-        """Where this run differs from the right one, in words; none where it doesn't."""
+        """The first line in which this run differs from the right one, in words; none if it doesn't differ."""
         if self == right:
             return None
-        if self.status is None:
-            return f"it doesn't end in {SECONDS} seconds"
-        for what, own, its in (("line", self.printed, right.printed), ("standard error, line", self.told, right.told)):
-            pairs = zip((*own.split(b"\n"), b"no line"), (*its.split(b"\n"), b"no line"))
-            found = next(((at, a, b) for at, (a, b) in enumerate(pairs, 1) if a != b), None)
-            if found:
-                at, came, wanted = found
-                return f"{what} {at} is `{shown(came)}`, and with the right body `{shown(wanted)}`"
-        if self.status < 0:
-            return f"it is ended by {signal.Signals(-self.status).name}"
-        return f"the status is {self.status}, and with the right body {right.status}"
-
-
-def shown(line: bytes) -> str:
-    """A line as it may be printed."""
-    return line.decode("ascii", "replace")[:100]
+        pairs = zip(self.lines(), right.lines())
+        return next((f"`{a[:100]}` in place of `{b[:100]}`" for a, b in pairs if a != b), "other bytes in these lines")
 
 
 @dataclass(frozen=True)
@@ -96,8 +88,7 @@ class Case:
                 process = subprocess.Popen(
                     [*TIMED, *words], cwd=ROOT, stdin=given, stdout=printed, stderr=told, preexec_fn=limit
                 )
-            status = process.wait()
-            return Ran(None if status == TIMED_OUT else status, *(read(it) for it in (printed, told)))
+            return Ran(process.wait(), *(read(it) for it in (printed, told)))
 
 
 def limit() -> None:

@@ -29,12 +29,11 @@ STARTING = threading.Lock()
 
 @dataclass
 class Chosen:
-    """A crate with all its wrong bodies: the texts of its sources, the number of each body by its name, and the names
-    of those that can't be chosen."""
+    """A crate with all its wrong bodies: the texts of its sources, and the number of each body that can be chosen, by
+    its name."""
 
     texts: dict[str, str] = field(default_factory=dict)
     numbers: dict[str, int] = field(default_factory=dict)
-    left: list[str] = field(default_factory=list)
 
 
 def places_of(body: Body, source: Sources) -> list[tuple[Item, Region]]:
@@ -54,10 +53,8 @@ def with_bodies(source: Sources, bodies: Iterable[Body]) -> Chosen:
     chosen, places = Chosen(), dict[Item, list[tuple[int, Region]]]()
     for body in bodies:
         found = places_of(body, source)
-        if not found:
-            chosen.left.append(body.name)
-            continue
-        chosen.numbers[body.name] = len(chosen.numbers) + 1
+        if found:
+            chosen.numbers[body.name] = len(chosen.numbers) + 1
         for item, region in found:
             places.setdefault(item, []).append((chosen.numbers[body.name], region))
     for item, wrong in sorted(places.items(), key=lambda it: -it[0].first):
