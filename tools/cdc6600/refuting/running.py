@@ -11,8 +11,7 @@ from concurrent.futures import ThreadPoolExecutor
 from pathlib import Path
 from typing import Iterable, Sequence
 
-from cdc6600.building.building import Unproved
-from cdc6600.crates.table import Table, Unreadable
+from cdc6600.crates.table import Table
 from cdc6600.wrong_bodies.edits import UNSURE, Body
 from cdc6600.wrong_bodies.tries import Crate
 from cdc6600.wrong_bodies.verdicts import CANT_TELL, REFUTED, Verdict
@@ -40,51 +39,38 @@ def has_tests(folder: Path) -> bool:
     return any("#[test]" in file.read_text(encoding="utf-8") for file in Path(folder, "src").rglob("*.rt"))
 
 
-class Refuting:
-    """The run: a copy of the crates with all wrong bodies, and how many bodies run side by side."""
+def try_all(table: Table, crates: Sequence[Crate], executable: Executable, cases: Cases, at_once: int) -> None:
+    """Tries all bodies that are left and can be chosen in an executable."""
+    left = [(crate, body) for crate, body in left_in(crates) if executable.has(crate.name, body.name)]
 
-    def __init__(self, table: Table, crates: Sequence[Crate], room: Path, at_once: int) -> None:
-        self.table, self.crates, self.at_once = table, crates, at_once
-        self.choice = Choice(table, room)
+    def difference(pair: tuple[Crate, Body]) -> str | None:
+        crate, body = pair
+        file = executable.wrong(crate.name, body.name)
+        try:
+            return cases.difference(file, LOCK in [*table.below(crate.name), crate.name])
+        finally:
+            file.unlink()
 
-    def run(self) -> None:
-        """Tries the program first, if there is one, and then the tests of each crate above an unrefuted body."""
-        if PROGRAM in self.table.lines:
-            program = self.choice.built(PROGRAM)
-            self.try_all(program, of_program(program.right()))
-        for name in (name for name in self.table.lines if has_tests(self.table.folder(name))):
-            above = {*self.table.below(name), name}
-            if any(crate.name in above for crate, _ in left_in(self.crates)):
-                tests = self.choice.built(name, is_test=True)
-                self.try_all(tests, of_tests(name, tests.right()))
-
-    def try_all(self, executable: Executable, cases: Cases) -> None:
-        """Tries all bodies that are left and can be chosen in an executable."""
-        left = [(crate, body) for crate, body in left_in(self.crates) if executable.has(crate.name, body.name)]
-
-        def difference(pair: tuple[Crate, Body]) -> str | None:
-            crate, body = pair
-            file = executable.wrong(crate.name, body.name)
-            try:
-                return cases.difference(file, LOCK in [*self.table.below(crate.name), crate.name])
-            finally:
-                file.unlink()
-
-        with ThreadPoolExecutor(self.at_once) as pool:
-            for (crate, body), found in zip(left, pool.map(difference, left)):
-                if found:
-                    crate.verdicts[body.name] = Verdict(REFUTED, found)
-                    print(f"{crate.name}/{body.name}: refuted by {found}", flush=True)
+    with ThreadPoolExecutor(at_once) as pool:
+        for (crate, body), found in zip(left, pool.map(difference, left)):
+            if found:
+                crate.verdicts[body.name] = Verdict(REFUTED, found)
+                print(f"{crate.name}/{body.name}: refuted by {found}", flush=True)
 
 
 def refute(table: Table, crates: Sequence[Crate], at_once: int) -> None:
-    """Runs the bodies of which it can't be told, so many at once. It notes those that a case refutes, and prints each
-    with its case.
+    """Runs the bodies of which it can't be told, so many at once: by the program first, if there is one, and then by
+    the tests of each crate above. It notes those that a case refutes, and prints each with its case.
 
-    Raises Unreadable if an executable with all wrong bodies can't be built."""
-    if left_in(crates):
-        with tempfile.TemporaryDirectory(prefix="refuting-") as room:
-            try:
-                Refuting(table, crates, Path(room), at_once).run()
-            except Unproved as fault:
-                raise Unreadable(f"an executable with all wrong bodies isn't built: {fault}") from None
+    Raises Unproved if an executable with all wrong bodies can't be built."""
+    if not left_in(crates):
+        return
+    with tempfile.TemporaryDirectory(prefix="refuting-") as room:
+        choice = Choice(table, Path(room))
+        if PROGRAM in table.lines:
+            program = choice.built(PROGRAM)
+            try_all(table, crates, program, of_program(program.right()), at_once)
+        for name in (name for name in table.lines if has_tests(table.folder(name))):
+            if any(crate.name in {*table.below(name), name} for crate, _ in left_in(crates)):
+                tests = choice.built(name, is_test=True)
+                try_all(table, crates, tests, of_tests(name, tests.right()), at_once)
