@@ -38,7 +38,7 @@ from cdc6600.crates.table import Table, Unreadable
 from cdc6600.refuting.running import refute, unsure_in
 from cdc6600.shared.program import ROOT
 from cdc6600.wrong_bodies.edits import UNSURE
-from cdc6600.wrong_bodies.kept import ROWS, Inputs, read_rows, write_rows
+from cdc6600.wrong_bodies.kept import ROWS, read_rows, write_rows
 from cdc6600.wrong_bodies.tries import Crate, Tries, read_crate
 from cdc6600.wrong_bodies.verdicts import CANT_TELL, NOT_REFUSED, Verdict
 
@@ -133,7 +133,7 @@ def write_table(root: Path, crates: Sequence[Crate]) -> None:
     for crate, body in ((crate, body) for crate in crates for body in [*crate.rested, *crate.bodies]):
         verdict = crate.verdicts.get(body.name)
         if verdict and verdict.kind != NOT_REFUSED:
-            rows[crate.inputs.row(body)] = verdict
+            rows[crate.rows[body.name]] = verdict
     if rows != before:
         write_rows(root, rows, f"`{words}` of {described.stdout.strip() or 'no commit'} on {date.today()}")
 
@@ -142,8 +142,7 @@ def work() -> int:
     given = arguments()
     table, rows = Table(given.root), {} if given.all else read_rows(given.root)
     number = logic()
-    crates = [read_crate(table, it, Inputs(table, it, number), rows, not given.prover)
-              for it in chosen(table, given.crates)]
+    crates = [read_crate(table, name, number, rows, not given.prover) for name in chosen(table, given.crates)]
     try_all(table, crates, given)
     if not given.prover:
         run_unsure(table, crates, given.at_once)

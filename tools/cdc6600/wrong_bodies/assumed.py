@@ -31,8 +31,8 @@ def assumed(source: Sources, folder: Path, wrong: Iterable[Item], texts: Mapping
     kept, proofs = {item.key() for item in wrong}, dict[str, str | None]()
     given: dict[str, set[tuple[str, str, str]]] = {}
     for item in source.functions():
-        folders = [] if is_special(item) or item.key() in kept else proof_folders(item, source, folder)
-        if not folders or folders[0].with_name(f"+{item.name}").exists():
+        folders = [] if item.key() in kept else proof_folders(item, source, folder)
+        if not folders:
             continue
         own, closures = folders
         for file in sorted([*own.glob("*.antt"), *closures.rglob("*.antt")]):
@@ -54,11 +54,6 @@ def without_bodies(path: str, text: str, body: Iterable[str],
         if item.kind == "function" and item.size and (keys is None or item.key() in keys):
             lines[item.body_start + 1 : item.last] = [f"{item.indentation}    {line}" for line in body]
     return "\n".join(lines)
-
-
-def is_special(item: Item) -> bool:
-    """Whether a function is a trait's, or of a type at some arguments alone."""
-    return bool(item.trait) or item.within.is_trait or item.within.is_instance
 
 
 def as_proved(said: str) -> str:

@@ -59,9 +59,13 @@ def proof_folder(item: Item, source: Sources, folder: Path, part: tuple[str, ...
 
 
 def proof_folders(item: Item, source: Sources, folder: Path) -> list[Path]:
-    """The folders of a function's proof and of those of its closures, or none if that isn't clear."""
+    """The folders of a function's proof and of those of its closures; none if that isn't clear, if the function is a
+    trait's or of a type at some arguments alone, or if it calls itself."""
     own, closures = proof_folder(item, source, folder), proof_folder(item, source, folder, ("fn",))
-    return [own, closures] if own and closures else []
+    is_special = item.trait or item.within.is_trait or item.within.is_instance
+    if is_special or not own or not closures or own.with_name(f"+{item.name}").exists():
+        return []
+    return [own, closures]
 
 
 def written_folders(item: Item, folder: Path) -> Iterator[Path]:
@@ -79,14 +83,11 @@ def can_stand_beside(body: Body, source: Sources, folder: Path) -> bool:
         return False
     item, (path, start, end, _) = body.touched[0], body.regions[0]
     folders = proof_folders(item, source, folder)
-    if item.trait or not folders or folders[0].with_name(f"+{item.name}").exists():
+    if not folders:
         return False
-    is_method_of_trait = item.within.is_trait
-    is_inside = path == item.path and item.first <= start and end <= item.last + 1
     own, closures = folders
-    files = {file.name for file in own.iterdir()} if own.is_dir() else set()
-    files |= {file.name for file in closures.rglob("*") if not file.is_dir()}
-    return is_inside and not is_method_of_trait and files <= FILES
+    files = {file.name for file in [*own.glob("*"), *closures.rglob("*")] if file.parent == own or not file.is_dir()}
+    return path == item.path and item.first <= start and end <= item.last + 1 and files <= FILES
 
 
 def copy_of(body: Body, suffix: str, source: Sources, folder: Path, paths: Sequence[str] = (),

@@ -15,7 +15,6 @@ from cdc6600.building.library import PARTS
 from cdc6600.crates.table import Table, Unreadable
 
 from .assumed import without_bodies
-from .edits import Body
 from .verdicts import Verdict
 
 ROWS = "docs/proof/all-wrong-bodies.txt"
@@ -102,13 +101,3 @@ def write_rows(root: Path, rows: Rows, call: str) -> None:
     part = file.with_suffix(".new")
     part.write_text(HEAD + "".join(f"{line}\n" for line in lines), encoding="utf-8")
     part.replace(file)
-
-
-class Inputs:
-    """The inputs of the verdicts on a crate's bodies, by their checksums."""
-
-    def __init__(self, table: Table, crate: str, logic: str) -> None:
-        self.crate, self.logic, self.of_crate = crate, logic, sum_of_crate(table, crate)
-
-    def row(self, body: Body) -> Row:
-        return Row(f"{self.crate}/{body.name}", self.logic, sum_of(self.of_crate, body.text))

@@ -22,7 +22,7 @@ from .assumed import assumed
 from .checking import checked
 from .copies import Copy, beside, can_stand_beside, copied, written_folders
 from .edits import LET_THROUGH, UNSURE, Body, applied, read_bodies
-from .kept import Inputs, Rows
+from .kept import Row, Rows, sum_of, sum_of_crate
 from .opening import Opening
 from .second import again, copies_again, in_place, right, settled
 from .verdicts import CANT_TELL, NOT_REFUSED, Outcome, Verdict, outcome_of
@@ -57,24 +57,25 @@ class Crate:
 
     name: str
     source: Sources
-    inputs: Inputs
     opening: Opening
     bodies: list[Body] = field(default_factory=list)
     rested: list[Body] = field(default_factory=list)
     groups: list[Group] = field(default_factory=list)
+    rows: dict[str, Row] = field(default_factory=dict)  # for each body the row that a verdict on it would have
     verdicts: dict[str, Verdict] = field(default_factory=dict)  # by the name of the body
     faults: list[str] = field(default_factory=list)
     seconds: list[float] = field(default_factory=list)  # the processor time of each check
 
 
-def read_crate(table: Table, name: str, inputs: Inputs, rows: Rows, is_run: bool) -> Crate:
+def read_crate(table: Table, name: str, logic: str, rows: Rows, is_run: bool) -> Crate:
     """Reads a crate's bodies and their known verdicts. A body of which the prover can't tell rests on that only if its
     edit says why nobody can tell. Bodies that the contract lets through are left out if no body is run."""
     source = Sources.read(table.folder(name))
-    crate = Crate(name, source, inputs, Opening(table, name))
+    crate, total = Crate(name, source, Opening(table, name)), sum_of_crate(table, name)
     bodies, crate.faults = read_bodies(table.folder(name), source)
     for body in bodies:
-        known = rows.get(inputs.row(body))
+        crate.rows[body.name] = Row(f"{name}/{body.name}", logic, sum_of(total, body.text))
+        known = rows.get(crate.rows[body.name])
         is_rested = known and (known.kind != CANT_TELL or UNSURE in body.notes)
         if not known and LET_THROUGH in body.notes:
             known = Verdict(CANT_TELL, "its contract lets it through")
