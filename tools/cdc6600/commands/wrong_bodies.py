@@ -22,7 +22,6 @@ of which it can't tell. The very last line is `N passed, M failed`. The status i
 """
 
 import argparse
-import subprocess
 import sys
 import tempfile
 from datetime import date
@@ -30,7 +29,7 @@ from pathlib import Path
 from typing import Iterable, Sequence
 
 from cdc6600.building import host
-from cdc6600.building.building import Unproved
+from cdc6600.building.building import Unproved, commit_of
 from cdc6600.building.processes import attended
 from cdc6600.crates.crate import EDITS
 from cdc6600.crates.kit import logic
@@ -125,8 +124,6 @@ def try_all(table: Table, crates: Sequence[Crate], given: argparse.Namespace) ->
 
 def write_table(root: Path, crates: Sequence[Crate]) -> None:
     """Replaces the rows of these crates. A body that is let through has none."""
-    described = subprocess.run(["git", "-C", str(root), "describe", "--always", "--dirty"], capture_output=True,
-                               text=True, check=False)
     words = " ".join(["tools/wrong-bodies", *sys.argv[1:]])
     names, before = {crate.name for crate in crates}, read_rows(root)
     rows = {row: verdict for row, verdict in before.items() if row.body.partition("/")[0] not in names}
@@ -135,7 +132,7 @@ def write_table(root: Path, crates: Sequence[Crate]) -> None:
         if verdict and verdict.kind != NOT_REFUSED:
             rows[crate.rows[body.name]] = verdict
     if rows != before:
-        write_rows(root, rows, f"`{words}` of {described.stdout.strip() or 'no commit'} on {date.today()}")
+        write_rows(root, rows, f"`{words}` of commit {commit_of(root)} on {date.today()}")
 
 
 def work() -> int:
