@@ -26,8 +26,8 @@ from .choosing import STARTING
 # A body may run on and on, and print on and on. The right program's longest case takes less than a tenth of these
 # seconds on an idle machine, and prints less than a hundredth of these bytes.
 SECONDS, BYTES = 30, 1 << 24
-# What kills a command after these seconds with all that it has started, and the status by which it says so.
-TIMED, TIMED_OUT = ["timeout", "-s", "KILL", str(SECONDS)], 128 + signal.SIGKILL
+# What kills a command after these seconds with all that it has started, and itself too.
+TIMED, TIMED_OUT = ["timeout", "-s", "KILL", str(SECONDS)], -signal.SIGKILL
 # The program without its proof takes minutes for these decks.
 LONG = {"endless"}
 DRAWN = 60
