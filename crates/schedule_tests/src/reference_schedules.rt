@@ -3,7 +3,7 @@
 use super::dump::Dump;
 use super::schedule::Schedule;
 
-pub const SCHEDULES: [Schedule; 6] = [
+pub const SCHEDULES: [Schedule; 7] = [
     Schedule {
         name: "a load waits for the turn, the place and the bank of a store to its word",
         deck: "\
@@ -314,6 +314,39 @@ pub const SCHEDULES: [Schedule; 6] = [
             (0o110, "1"),
             (0o137, "3"),
             (0o150, "2"),
+        ],
+    },
+    Schedule {
+        name: "an exchange and a peripheral write change pages that nothing has changed before",
+        deck: "\
+            core 1024\n\
+            at 371\n\
+            word 00000100000000000000\n\
+            word 00000020000000000000\n\
+            at 406\n\
+            word 7\n\
+            start 370\n\
+            end\n",
+        budget: 1_000_000,
+        steps: &[
+            ("ask 370", "ok"),
+            ("exchange", "ok"),
+            ("ppwrite 1000 5", "ok"),
+        ],
+        left: 0,
+        dump: Dump {
+            begins: "\
+                P 000000 PARCEL 0 HELD none\n\
+                HALT running FAULT none\n\
+                RA 000100 FL 000020 EM 000000\n",
+            registers: &[("X6", "7")],
+            shows: "",
+            log: "E370 W1000=5",
+        },
+        memory: &[
+            (0o47, "0"),
+            (0o377, "00000001000000000000"),
+            (0o1000, "5"),
         ],
     },
 ];
