@@ -15,7 +15,7 @@ from small_checkout import Checkout, write_all, write_workspace
 from cdc6600.shared.program import ROOT
 from cdc6600.shared.waiting import finish, wait_until
 
-ALL_OF_LIBRARY, OWN_OF_LIBRARY = ["beside", "embedding", "lower", "upper"], ["beside", "embedding"]
+ALL_OF_LIBRARY = ["beside", "embedding", "lower", "upper"]
 NAMES = ["lower", "upper", "operator_main"]
 
 
@@ -86,19 +86,11 @@ def test_kit_that_is_missing_is_told(checkout: Checkout) -> None:
     assert process.returncode == 126 and "the kit isn't installed" in told and "built again" not in told
 
 
-def test_library_takes_what_the_program_left(checkout: Checkout) -> None:
-    checkout.answer("run")
-    assert checkout.build_library() == OWN_OF_LIBRARY
+def test_library_is_kept(checkout: Checkout) -> None:
+    assert sorted(checkout.build_library()) == ALL_OF_LIBRARY
     assert "cdc6600: embedding is proved, 4 of 4 crates" in checkout.told
     assert checkout.build_library() == []
     checkout.change("upper", "")
-    assert sorted(checkout.build_library()) == ALL_OF_LIBRARY
-    checkout.change("upper", "--")
-    checkout.answer("run")
-    assert checkout.build_library() == OWN_OF_LIBRARY
-
-
-def test_library_without_the_program(checkout: Checkout) -> None:
     assert sorted(checkout.build_library()) == ALL_OF_LIBRARY
 
 

@@ -6,7 +6,6 @@ machine (tools/cdc6600/asking) and the checks.
 """
 
 import re
-import shutil
 import time
 from pathlib import Path
 from typing import Iterable, Mapping, Sequence
@@ -19,7 +18,7 @@ from . import keeping
 from .building import LINES_OF_A_FAULT, Unproved, library, locked, prove, put, source_sum, tell, temporary
 from .processes import run
 
-CRATE, PROGRAM = "embedding", "operator_main"
+CRATE = "embedding"
 HEADER = ROOT / "crates/embedding/include/cdc6600.h"
 # The functions that the shared library exports.
 EXPORTED = HEADER.with_name("cdc6600.map")
@@ -40,25 +39,6 @@ def newest(table: Table, names: Iterable[str]) -> float:
     return max(file.stat().st_mtime for file in [*files, table.root / "crates.txt"])
 
 
-def kept_by_program(table: Table) -> Path:
-    """The folder in which tools/build-program keeps the libraries of crates below the program."""
-    return table.folder(PROGRAM) / "out/libraries"
-
-
-def keep_libraries(table: Table, copy: Table, sources: bytes) -> None:
-    """Keeps the libraries that were built in a copy below the program and stand below the crate too, with the sum of
-    their sources."""
-    folder, below = kept_by_program(table), table.below(CRATE) if CRATE in table.lines else ()
-    try:
-        shutil.rmtree(folder, ignore_errors=True)
-        folder.mkdir(parents=True)
-        for name in (name for name in below if name in copy.lines):
-            shutil.move(library(copy, name), folder)
-        folder.with_name(f"{folder.name}.sources").write_bytes(sources)
-    except OSError as fault:
-        tell(f"the libraries of the crates aren't kept for tools/build-library: {fault.strerror}")
-
-
 def left_by_rt_ci(table: Table, names: Iterable[str]) -> dict[str, Path]:
     """The libraries of these crates that `rt ci` has left in the checkout, if it has left all of them and none is older
     than a source; otherwise none. They fit only one another. Those of the kit's other commands have a stamp."""
@@ -66,13 +46,6 @@ def left_by_rt_ci(table: Table, names: Iterable[str]) -> dict[str, Path]:
     are_left = all((it / "format").is_file() and not it.with_name("stamp").exists() and
                    it.stat().st_mtime >= newest(table, [*table.below(name), name]) for name, it in found.items())
     return found if are_left else {}
-
-
-def left_by_program(table: Table) -> dict[str, Path]:
-    """The libraries below the crate that tools/build-program has left of the sources as they are."""
-    folder, below = kept_by_program(table), table.below(PROGRAM) if PROGRAM in table.lines else ()
-    names = [name for name in table.below(CRATE) if name in below]
-    return {name: folder / f"{name}.rlib" for name in names} if is_current(folder) else {}
 
 
 def proved(table: Table, names: Sequence[str], room: Path) -> dict[str, Path]:
@@ -92,17 +65,17 @@ def words_of(table: Table, name: str, libraries: Mapping[str, Path], top: str) -
     return [*found, "--logic-built", f"{kit}/logic_built", "--antt-project", f"{kit}/rattle/logic/antt-project.json"]
 
 
-def built(table: Table, name: str, below: Mapping[str, Path], made: Path, words: Iterable[str]) -> Path:
-    """Proves a crate over the libraries below it, and builds it into a file by the checker's further words; the file.
+def built(table: Table, libraries: Mapping[str, Path], made: Path, words: Iterable[str]) -> Path:
+    """Proves the crate over the libraries below it, and builds it into a file by the checker's further words; the file.
 
     Raises Unproved with the end of what the checker said, if it isn't proved."""
-    said = words_of(table, name, below, str(table.folder(name) / "src/lib.rt"))
+    said = words_of(table, CRATE, libraries, str(table.folder(CRATE) / "src/lib.rt"))
     ran = run([str(checker()), "build", *said, *words, "-o", str(made)], made.parent)
     lines = [line for line in ran.said.rstrip().split("\n") if not line.startswith("statements ")]
     verdict = lines[-1] if lines[-1].startswith("logic=proved ") else ""
     if ran.status or not verdict or EXCUSES.search(verdict):
-        raise Unproved("\n".join([*lines[-LINES_OF_A_FAULT:], f"cdc6600: {name} isn't proved"]))
-    tell(f"{name} is proved, {len(below) + 1} of {len(table.below(CRATE)) + 1} crates")
+        raise Unproved("\n".join([*lines[-LINES_OF_A_FAULT:], f"cdc6600: {CRATE} isn't proved"]))
+    tell(f"{CRATE} is proved, {len(libraries) + 1} of {len(libraries) + 1} crates")
     return made
 
 
@@ -125,22 +98,14 @@ def shared(kit: Path, room: Path, *parts: str | Path) -> Path:
     return room / SHARED
 
 
-def libraries(table: Table, room: Path) -> dict[str, Path]:
-    """The libraries below the crate: those that are left, and the others proved."""
-    below = table.below(CRATE)
-    found = left_by_rt_ci(table, below) or left_by_program(table) or proved(table, below, room)
-    for name in (name for name in below if name not in found):
-        found[name] = built(table, name, found, room / f"{name}.rlib", ["--statements"])
-    return found
-
-
 def make(table: Table, target: str, room: Path, folder: Path) -> None:
     """Proves the crate, and keeps its archive and its bitcode in a folder."""
-    kit, begun, bitcode, below = checker().parent.parent, time.time(), room / BITCODE, libraries(table, room)
+    kit, begun, bitcode, below = checker().parent.parent, time.time(), room / BITCODE, table.below(CRATE)
+    libraries = left_by_rt_ci(table, below) or proved(table, below, room)
     words = ["--toolchain", str(keeping.toolchain(kit, room, bitcode)), "--backend", "llvm"]
     words += ["--crate-type", "staticlib"]
     words += ["--target", target] if target != NATIVE else []
-    made = built(table, CRATE, below, room / f"{CRATE}.a", words)
+    made = built(table, libraries, room / f"{CRATE}.a", words)
     put(bitcode, folder / BITCODE, begun)
     put(archive(kit, room, made, target), folder / ARCHIVE, begun)
 

@@ -10,8 +10,7 @@ on ARM. Then it lacks those calls, which are ten lines of C in docs/use/emulator
 The libraries are also kept in crates/embedding/out, where the tools find the shared one. If those there are newer than
 every source, nothing is proved. The crates below are proved as tools/build-program proves them, and `embedding` over
 them by the kit's checker, which can also build it for another processor. Where `rt ci` has left the libraries of all
-that stand below in the checkout, and each is newer than every source of its own, these aren't proved again. Otherwise
-those aren't that tools/build-program has kept of the sources as they are.
+that stand below in the checkout, and each is newer than every source of its own, these aren't proved again.
 
 With --unproved nothing is proved, which is told. What it was built from is written to libcdc6600.so.unproved.sources.
 

@@ -6,9 +6,6 @@ writes the executable to FILE, or to crates/operator_main/out/operator_main. Wha
 FILE.sources: the checksum of tools/source-sum. If that is the same now, nothing is built. If only the kit is another
 one, that is reported. If another call builds the same FILE, this one waits for it.
 
-The libraries of the crates below are kept in crates/operator_main/out/libraries, so that tools/build-library doesn't
-prove these crates again.
-
 The crates are proved and built by the kit's command `rt ci`, in a copy that has no tests and no wrong bodies. What
 `rt ci` has proved on this machine before, from the same files, it doesn't prove again.
 
@@ -23,7 +20,6 @@ from pathlib import Path
 
 from cdc6600.building import unproved
 from cdc6600.building.building import SOURCE_SUM, ended, kits, locked, prove, put, source_sum, tell, temporary
-from cdc6600.building.library import keep_libraries
 from cdc6600.crates.kit import checker
 from cdc6600.crates.table import Table
 from cdc6600.shared.program import ROOT
@@ -31,15 +27,13 @@ from cdc6600.shared.program import ROOT
 UNPROVED = ".unproved"
 
 
-def made(given: argparse.Namespace, root: Path, room: Path, sources: bytes) -> Path:
-    """Builds the executable of these sources in a folder; its file."""
+def made(given: argparse.Namespace, root: Path, room: Path) -> Path:
+    """Builds the executable in a folder; its file."""
     table, name = Table(root), given.program
     if given.unproved:
         tell("building the program without its proof, which takes one or two minutes")
         return unproved.build(table, checker().parent.parent, name, room)
-    copy = prove(table, [*table.below(name), name], room)
-    keep_libraries(table, copy, sources)
-    return copy.folder(name) / "out" / str(name)
+    return prove(table, [*table.below(name), name], room).folder(name) / "out" / str(name)
 
 
 def tell_kits(kept: Path, now: bytes) -> None:
@@ -77,7 +71,7 @@ def work() -> int:
             return 0
         begun, text = time.time(), source_sum(root)
         tell_kits(sources, text)
-        it = made(given, root, room, text)
+        it = made(given, root, room)
         # Without this file the executable doesn't count, so it is never taken for that of other sources.
         sources.unlink(missing_ok=True)
         put(it, file, begun)
