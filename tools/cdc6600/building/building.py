@@ -21,8 +21,8 @@ from cdc6600.shared.program import ROOT
 from .processes import attended, run
 
 SOURCE_SUM = ROOT / "tools/source-sum"
-# The file of a crate that has the version of the program.
-VERSION = "src/version.rt"
+# The file of a crate that has the version of the program, and the number in it.
+VERSION, NUMBER = "src/version.rt", re.compile(r'(VERSION: &str = "[0-9.]+)";')
 # What is left out of a copy: what was built, wrong bodies, and tests, with the lines that declare them.
 LEFT_OUT = shutil.ignore_patterns("out", "must-fail", "wrong-bodies", "*_tests.rt", "test_*.rt")
 TESTS = re.compile(r"^#\[cfg\(test\)\]\nmod \w+;\n", re.MULTILINE)
@@ -75,13 +75,16 @@ def copied(table: Table, names: Sequence[str], room: Path) -> Table:
     stand behind the number."""
     for name in names:
         shutil.copytree(table.folder(name), room / "crates" / name, ignore=LEFT_OUT)
+    built, changed = f'\\1 (commit {commit_of(table.root)}, {kit_name()})";', list[str]()
     for file in room.glob("crates/*/src/*.rt"):
-        text = file.read_text(encoding="utf-8")
-        file.write_text(TESTS.sub("", text), encoding="utf-8")
-    for file in room.glob(f"crates/*/{VERSION}"):
-        built = f'\\1 (commit {commit_of(table.root)}, {kit_name()})";'
-        text = re.sub(r'(VERSION: &str = "[0-9.]+)";', built, file.read_text(encoding="utf-8"))
-        file.write_text(text, encoding="utf-8")
+        text = TESTS.sub("", before := file.read_text(encoding="utf-8"))
+        text = NUMBER.sub(built, text) if file.match(VERSION) else text
+        if text != before:
+            file.write_text(text, encoding="utf-8")
+            changed.append(str(file))
+    # `rt ci` refuses a source that isn't in the kit's layout.
+    if changed and (ran := run([str(checker()), "fmt", "--write", *changed], room)).status:
+        raise Unproved(ran.said)
     if (table.root / "HANDLES").is_file():
         shutil.copy(table.root / "HANDLES", room)
     table.write(room, names)
