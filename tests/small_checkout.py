@@ -33,16 +33,6 @@ SOURCES = {
 fn main() {
     let _ = upper::two();
 }
-
-#[cfg(test)]
-mod tiny_tests;
-""",
-    "{main}/src/tiny_tests.rt": """//! The test of the program.
-
-#[test]
-fn two_is_two() {
-    let _ = upper::two();
-}
 """,
 }
 # The list of crates has comments and empty lines, which count for nothing.

@@ -1,42 +1,86 @@
-"""Proves crates by `rt ci` in a copy of them, and tells how far it is.
+"""Proves a crate with all crates on which it stands, and builds it, each crate over what those below it state.
 
-tools/build-program builds the program by it, and tools/build-library the libraries below the crate `embedding`.
+tools/build-program builds the program by it, tools/build-library the static library for C.
 """
 
 import fcntl
 import os
 import re
 import shutil
+import signal
 import subprocess
 import sys
-import tempfile
+import threading
+import time
+from concurrent.futures import FIRST_COMPLETED, Future, ThreadPoolExecutor, wait
 from contextlib import contextmanager
+from dataclasses import dataclass
 from pathlib import Path
-from typing import Callable, Iterator, Sequence
+from types import FrameType
+from typing import Callable, Iterable, Iterator, Mapping
 
 from cdc6600.crates.kit import checker
 from cdc6600.crates.table import Table, Unreadable
 from cdc6600.shared.program import ROOT
 
-from .processes import attended, run
+from . import host
+from .forecast import Forecast, measured
+from .processes import ENDING, run, stop_all
 
+# What a verdict may not mention: C code, functions that may not return, and parts that were let pass without proof.
+EXCUSES = re.compile(r" (foreign|hides|partial|may-abort|may-serve|bugs|holes)=")
 SOURCE_SUM = ROOT / "tools/source-sum"
-# The file of a crate that has the version of the program, and the number in it.
-VERSION, NUMBER = "src/version.rt", re.compile(r'(VERSION: &str = "[0-9.]+)";')
-# What is left out of a copy: what was built, wrong bodies, and tests, with the lines that declare them.
-LEFT_OUT = shutil.ignore_patterns("out", "must-fail", "wrong-bodies", "*_tests.rt", "test_*.rt")
-TESTS = re.compile(r"^#\[cfg\(test\)\]\nmod \w+;\n", re.MULTILINE)
-# How `rt ci` reports a crate: after what the checker said of it, or by itself if an earlier run has proved it.
-REPORT = re.compile(r"rt: (\w+) (proved|NOT PROVED|is kept: )")
+# The file of a crate that has the version of the program.
+VERSION = "src/version.rt"
+# A crate without a measured time takes about as long as so many lines before it comes to any of its own.
+LINES_BEFORE = 400
 LINES_OF_A_FAULT = 40
+LEAST_URGENT = 19
+# The seconds after which a signal is sent again.
+MOMENT = 0.1
 
 
 class Unproved(Exception):
     """A crate that isn't proved, or what isn't linked. Its text is for the user."""
 
 
+@dataclass(frozen=True)
+class Product:
+    """What the crate at the top is built into: the source that the checker reads, how the file's name ends, and the
+    words that ask for it."""
+
+    source: str
+    ending: str
+    words: tuple[str, ...] = ()
+
+
+PROGRAM = Product("main.rt", ".o")
+LIBRARY = Product("lib.rt", ".a", ("--crate-type", "staticlib"))
+
+
 def tell(words: str) -> None:
     print(f"cdc6600: {words}", file=sys.stderr, flush=True)
+
+
+class Plan:
+    """The crates to prove, lowest first, each with its work in seconds of a processor, and how urgent it is. Those that
+    are given make no work."""
+
+    def __init__(self, table: Table, top: str, given: Iterable[str] = ()) -> None:
+        self.crates = [*table.below(top), top]
+        self.uses = {name: [it for it in table.uses[name] if it in self.crates] for name in self.crates}
+        self.work = work_of(table, self.crates)
+        self.work.update((name, 0) for name in given)
+        ahead, behind = dict[str, float](), dict[str, float]()
+        for name in self.crates:
+            ahead[name] = max((ahead[it] + self.work[it] for it in self.uses[name]), default=0)
+        for name in reversed(self.crates):
+            above = [it for it in self.crates if name in self.uses[it]]
+            behind[name] = self.work[name] + max((behind[it] for it in above), default=0)
+        longest = max(behind.values())
+        # How much later than it could a crate may begin and hold up nothing, in twentieths of the whole.
+        slack = {name: int(20 * (longest - ahead[name] - behind[name]) / longest) for name in self.crates}
+        self.nice = {name: min(LEAST_URGENT, slack[name]) for name in self.crates}
 
 
 def commit_of(root: Path) -> str:
@@ -70,52 +114,116 @@ def kit_name() -> str:
     return said.stdout.strip() or "an unknown kit"
 
 
-def copied(table: Table, names: Sequence[str], room: Path) -> Table:
-    """A copy of crates without their tests and wrong bodies. In the version of the program, the commit and the kit
-    stand behind the number."""
-    for name in names:
-        shutil.copytree(table.folder(name), room / "crates" / name, ignore=LEFT_OUT)
-    built, changed = f'\\1 (commit {commit_of(table.root)}, {kit_name()})";', list[str]()
-    for file in room.glob("crates/*/src/*.rt"):
-        text = TESTS.sub("", before := file.read_text(encoding="utf-8"))
-        text = NUMBER.sub(built, text) if file.match(VERSION) else text
-        if text != before:
-            file.write_text(text, encoding="utf-8")
-            changed.append(str(file))
-    # `rt ci` refuses a source that isn't in the kit's layout.
-    if changed and (ran := run([str(checker()), "fmt", "--write", *changed], room)).status:
-        raise Unproved(ran.said)
-    if (table.root / "HANDLES").is_file():
-        shutil.copy(table.root / "HANDLES", room)
-    table.write(room, names)
-    return Table(room)
+def lines_of(folder: Path) -> int:
+    """The lines of a crate's code, without its tests."""
+    files = (file for file in (folder / "src").rglob("*.rt") if "test" not in file.name)
+    return sum(len(file.read_bytes().splitlines()) for file in files)
 
 
-def prove(table: Table, names: Sequence[str], room: Path) -> Table:
-    """Proves crates and builds them in a copy; the copy. All on which they stand have to be among them.
-
-    Raises Unproved with the end of what the checker said, if one isn't proved."""
-    copy, proved, said = copied(table, names, room / "copy"), list[str](), list[str]()
-
-    def heed(line: str) -> None:
-        said.append(line)
-        if found := REPORT.match(line):
-            if found[2] == "NOT PROVED":
-                raise Unproved("".join([*said[-LINES_OF_A_FAULT:-1], f"cdc6600: {found[1]} isn't proved"]))
-            proved.append(found[1])
-            tell(f"{found[1]} is proved, {len(proved)} of {len(names)} crates")
-            said.clear()
-
-    # `rt ci` runs the program as another user, who has to get into the folder.
-    room.chmod(0o711)
-    if run([str(checker().with_name("rt")), "ci"], copy.root, heed).status:
-        raise Unproved("".join([*said[-LINES_OF_A_FAULT:], "cdc6600: the crates aren't built"]))
-    return copy
+def work_of(table: Table, names: Iterable[str]) -> dict[str, float]:
+    """The work of each crate: its measured seconds, or about as many if it has none, by its lines."""
+    lines = {name: LINES_BEFORE + lines_of(table.folder(name)) for name in names}
+    seconds = {name: taken for name, taken in measured(table.root).items() if name in names}
+    pace = sum(seconds.values()) / sum(lines[name] for name in seconds) if seconds else 1
+    return {name: seconds.get(name, pace * lines[name]) for name in names}
 
 
-def library(copy: Table, name: str) -> Path:
-    """The library that a proof in a copy has left of a crate."""
-    return copy.folder(name) / "out/rlib" / f"{name}.rlib"
+class Building:
+    """Proves the crate at the top and those below it, each into a folder of its own in the room. The libraries that are
+    given are proved already."""
+
+    def __init__(self, table: Table, top: str, product: Product, room: Path,
+                 given: Mapping[str, Path] | None = None) -> None:
+        self.table, self.top, self.product, self.room = table, top, product, Path(room)
+        self.kit, self.given, self.seconds = checker().parent.parent, given or {}, dict[str, float]()
+        # The tools that compile the crate at the top.
+        self.toolchain = self.kit / "toolchain"
+        self.plan, self.proved = Plan(table, top, self.given), set(self.given)
+        self.forecast = Forecast(self.plan, host.places(), max(host.free_memory() // host.NEEDED, 1))
+
+    def made(self, name: str) -> Path:
+        """What a crate is built into."""
+        if name in self.given:
+            return self.given[name]
+        return self.room / name / f"{name}{self.product.ending if name == self.top else '.rlib'}"
+
+    def sources(self, name: str) -> Path:
+        """The folder of a crate's sources. That of the crate that has the version is a copy, in which the commit and
+        the kit stand behind the number."""
+        folder = self.table.folder(name)
+        if not (folder / VERSION).is_file():
+            return folder
+        copy = self.room / f"{name}-sources"
+        shutil.copytree(folder, copy, ignore=shutil.ignore_patterns("out"))
+        text = (copy / VERSION).read_text(encoding="utf-8")
+        built = f'\\1 (commit {commit_of(self.table.root)}, {kit_name()})";'
+        (copy / VERSION).write_text(re.sub(r'(VERSION: &str = "[0-9.]+)";', built, text), encoding="utf-8")
+        return copy
+
+    def words(self, name: str) -> list[str]:
+        """The words by which the checker proves a crate and builds it over the libraries below it."""
+        below, folder = self.table.below(name), self.sources(name)
+        root = folder / "src" / (self.product.source if name == self.top else "lib.rt")
+        found = ["nice", "-n", str(self.plan.nice[name]), str(checker()), "build", "--crate-name", name, str(root)]
+        for it in ["std", *self.table.uses[name]]:
+            found += ["--extern", f"{it}={self.made(it) if it in below else f'{self.kit}/rlibs/{it}.rlib'}"]
+        for it in below:
+            found += ["-L", f"dependency={self.made(it).parent}"]
+        found += ["-L", f"dependency={self.kit}/rlibs", "--logic-built", f"{self.kit}/logic_built"]
+        found += ["--antt-project", f"{self.kit}/rattle/logic/antt-project.json", "--jobs", str(self.jobs(name))]
+        compiling = ["--toolchain", str(self.toolchain), "--backend", "llvm", *self.product.words]
+        found += compiling if name == self.top else ["--statements"]
+        return [*found, "-o", str(self.made(name))]
+
+    def jobs(self, name: str) -> int:
+        """How many processes a check may use. With several it takes a fourth more of processor time, so only those
+        have them for which others wait."""
+        return 1 if self.plan.nice[name] else host.places()
+
+    def prove(self, name: str) -> None:
+        """Proves and builds a crate.
+
+        Raises Unproved with the end of what the checker said, where it isn't proved."""
+        (self.room / name).mkdir()
+        self.forecast.begin(name, time.monotonic())
+        ran = run(self.words(name), self.room / name)
+        lines = [line for line in ran.said.rstrip().split("\n") if not line.startswith("statements ")]
+        verdict = lines[-1] if lines[-1].startswith("logic=proved ") else ""
+        if ran.status or not verdict or EXCUSES.search(verdict):
+            raise Unproved("\n".join([*lines[-LINES_OF_A_FAULT:], f"cdc6600: {name} isn't proved"]))
+        self.seconds[name] = ran.seconds
+
+    def tell(self, name: str) -> None:
+        """Tells that a crate is proved, and about how long the others will take."""
+        self.proved.add(name)
+        many, total = len(self.proved), len(self.plan.crates)
+        minutes = self.forecast.minutes_left(name, self.proved, time.monotonic())
+        left = "" if many == total else f"; about {minutes} minutes left" if minutes > 1 else "; about a minute left"
+        tell(f"{name} is proved, {many} of {total} crates{left}")
+
+    def prove_all(self) -> None:
+        """Proves each crate once those below it are proved, as many side by side as there is memory for."""
+        left = [name for name in self.plan.crates if name not in self.given]
+        running: dict[Future[None], str] = {}
+        with ThreadPoolExecutor(len(left)) as pool:
+            try:
+                while left or running:
+                    for name in self.ready(left, not running):
+                        left.remove(name)
+                        running[pool.submit(self.prove, name)] = name
+                    for ended in wait(running, return_when=FIRST_COMPLETED).done:
+                        name = running.pop(ended)
+                        ended.result()
+                        self.tell(name)
+            except BaseException:
+                stop_all()
+                raise
+
+    def ready(self, left: list[str], is_first: bool) -> list[str]:
+        """The crates to begin with now, the most urgent ones first; where memory is short, one if none runs."""
+        found = [name for name in left if self.proved.issuperset(self.plan.uses[name])]
+        room = max(host.free_memory() // host.NEEDED, 1 if is_first else 0)
+        return sorted(found, key=lambda it: self.plan.nice[it])[:room]
 
 
 def put(made: Path, file: Path, begun: float) -> None:
@@ -141,18 +249,34 @@ def locked(file: Path) -> Iterator[None]:
         yield
 
 
-@contextmanager
-def temporary() -> Iterator[Path]:
-    """A temporary folder. A command that is about to be ended may still write into it."""
-    with tempfile.TemporaryDirectory(prefix="cdc6600-", ignore_cleanup_errors=True) as name:
-        yield Path(name)
+def end(number: int, _: FrameType | None) -> None:
+    """Ends this process after a signal, and ignores further signals. Ctrl-C arrives twice: from the terminal, and from
+    the script that waits for this process."""
+    for it in ENDING:
+        signal.signal(it, signal.SIG_IGN)
+    sys.exit(128 + number)
+
+
+def repeat(signals: int) -> None:
+    """Sends each signal to the main thread again, a moment later, if `end` hasn't handled it by then. The main thread
+    misses a signal that arrives just before it begins to wait."""
+    while number := os.read(signals, 1):
+        time.sleep(MOMENT)
+        if signal.getsignal(number[0]) is end:
+            signal.pthread_kill(threading.main_thread().ident or 0, number[0])
 
 
 def ended(work: Callable[[], int]) -> int:
-    """Goes through the work of a tool that builds; its status. A fault of the system, such as a full disk, ends it with
-    a line."""
+    """Goes through the work of a tool that builds; its status. A signal ends it too, with all that it has started, and
+    so does a fault of the system, such as a full disk, with a line."""
+    signals, caught = os.pipe()
+    os.set_blocking(caught, False)
+    signal.set_wakeup_fd(caught)
+    threading.Thread(target=repeat, args=(signals,), daemon=True).start()
+    for number in ENDING:
+        signal.signal(number, end)
     try:
-        return attended(work)
+        return work()
     except (Unproved, Unreadable) as reason:
         print(reason, file=sys.stderr)
     except OSError as fault:

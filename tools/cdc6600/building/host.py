@@ -1,4 +1,4 @@
-"""What there is to work with: processors and memory, under the limit of this process's control group too."""
+"""What there is to work with: processors and memory, under the limits of this process's control group too."""
 
 import os
 from pathlib import Path
@@ -15,6 +15,14 @@ def words_of(file: str | Path) -> list[str]:
         return []
 
 
+def processors() -> int:
+    found = len(os.sched_getaffinity(0))
+    quota = words_of(GROUP / "cpu.max")
+    if len(quota) == 2 and quota[0].isdigit():
+        found = min(found, max(int(quota[0]) // int(quota[1]), 1))
+    return found
+
+
 def free_memory() -> int:
     words = words_of("/proc/meminfo")
     found = [1024 * int(words[words.index("MemAvailable:") + 1])] if "MemAvailable:" in words else []
@@ -26,4 +34,4 @@ def free_memory() -> int:
 
 def places() -> int:
     """How many checks may run side by side: one a processor, where memory is free for each, and always one."""
-    return max(1, min(len(os.sched_getaffinity(0)), free_memory() // NEEDED))
+    return max(1, min(processors(), free_memory() // NEEDED))

@@ -5,7 +5,8 @@ What is made is kept in the crate's folder `out`, for tools/build-library, tools
 machine (tools/cdc6600/asking) and the checks.
 """
 
-import re
+import shutil
+import tempfile
 import time
 from pathlib import Path
 from typing import Iterable, Mapping, Sequence
@@ -14,11 +15,11 @@ from cdc6600.crates.kit import checker
 from cdc6600.crates.table import Table
 from cdc6600.shared.program import ROOT, is_current
 
-from . import keeping
-from .building import LINES_OF_A_FAULT, Unproved, library, locked, prove, put, source_sum, tell, temporary
+from . import host, keeping
+from .building import LIBRARY, LINES_OF_A_FAULT, Building, Product, Unproved, locked, put, source_sum, tell
 from .processes import run
 
-CRATE = "embedding"
+CRATE, PROGRAM = "embedding", "operator_main"
 HEADER = ROOT / "crates/embedding/include/cdc6600.h"
 # The functions that the shared library exports.
 EXPORTED = HEADER.with_name("cdc6600.map")
@@ -29,8 +30,6 @@ NATIVE = "x86_64-unknown-linux-gnu"
 # For another processor the kit has no calls of the C library, and the caller supplies them.
 TARGETS = (NATIVE, "aarch64-unknown-linux-gnu")
 PARTS = ("src", "specs", "proofs")
-# What a verdict may not mention: C code, functions that may not return, and parts that were let pass without proof.
-EXCUSES = re.compile(r" (foreign|hides|partial|may-abort|may-serve|bugs|holes)=")
 
 
 def newest(table: Table, names: Iterable[str]) -> float:
@@ -39,19 +38,41 @@ def newest(table: Table, names: Iterable[str]) -> float:
     return max(file.stat().st_mtime for file in [*files, table.root / "crates.txt"])
 
 
+def kept_by_program(table: Table) -> Path:
+    """The folder in which tools/build-program keeps the libraries of crates below the program."""
+    return table.folder(PROGRAM) / "out/libraries"
+
+
+def keep_libraries(building: Building, sources: bytes) -> None:
+    """Keeps the libraries that were built below the program and stand below the crate too, with the sum of their
+    sources."""
+    folder, table = kept_by_program(building.table), building.table
+    below = table.below(CRATE) if CRATE in table.lines else ()
+    try:
+        shutil.rmtree(folder, ignore_errors=True)
+        folder.mkdir(parents=True)
+        for name in building.proved.intersection(below):
+            shutil.move(building.made(name), folder)
+        folder.with_name(f"{folder.name}.sources").write_bytes(sources)
+    except OSError as fault:
+        tell(f"the libraries of the crates aren't kept for tools/build-library: {fault.strerror}")
+
+
 def left_by_rt_ci(table: Table, names: Iterable[str]) -> dict[str, Path]:
     """The libraries of these crates that `rt ci` has left in the checkout, if it has left all of them and none is older
     than a source; otherwise none. They fit only one another. Those of the kit's other commands have a stamp."""
-    found = {name: library(table, name) for name in names}
+    found = {name: table.folder(name) / "out/rlib" / f"{name}.rlib" for name in names}
     are_left = all((it / "format").is_file() and not it.with_name("stamp").exists() and
                    it.stat().st_mtime >= newest(table, [*table.below(name), name]) for name, it in found.items())
     return found if are_left else {}
 
 
-def proved(table: Table, names: Sequence[str], room: Path) -> dict[str, Path]:
-    """The libraries of these crates, proved in a copy."""
-    copy = prove(table, names, room)
-    return {name: library(copy, name) for name in names}
+def left_libraries(table: Table) -> dict[str, Path]:
+    """The libraries below the crate that `rt ci` has left, or otherwise those that tools/build-program has left of the
+    sources as they are."""
+    folder, below = kept_by_program(table), table.below(PROGRAM)
+    kept_ones = {name: folder / f"{name}.rlib" for name in table.below(CRATE) if name in below}
+    return left_by_rt_ci(table, table.below(CRATE)) or (kept_ones if is_current(folder) else {})
 
 
 def words_of(table: Table, name: str, libraries: Mapping[str, Path], top: str) -> list[str]:
@@ -65,24 +86,27 @@ def words_of(table: Table, name: str, libraries: Mapping[str, Path], top: str) -
     return [*found, "--logic-built", f"{kit}/logic_built", "--antt-project", f"{kit}/rattle/logic/antt-project.json"]
 
 
-def built(table: Table, libraries: Mapping[str, Path], made: Path, words: Iterable[str]) -> Path:
-    """Proves the crate over the libraries below it, and builds it into a file by the checker's further words; the file.
+def proved(table: Table, names: Sequence[str], room: Path) -> dict[str, Path]:
+    """The libraries of these crates, lowest first, proved one after another.
 
-    Raises Unproved with the end of what the checker said, if it isn't proved."""
-    said = words_of(table, CRATE, libraries, str(table.folder(CRATE) / "src/lib.rt"))
-    ran = run([str(checker()), "build", *said, *words, "-o", str(made)], made.parent)
-    lines = [line for line in ran.said.rstrip().split("\n") if not line.startswith("statements ")]
-    verdict = lines[-1] if lines[-1].startswith("logic=proved ") else ""
-    if ran.status or not verdict or EXCUSES.search(verdict):
-        raise Unproved("\n".join([*lines[-LINES_OF_A_FAULT:], f"cdc6600: {CRATE} isn't proved"]))
-    tell(f"{CRATE} is proved, {len(libraries) + 1} of {len(libraries) + 1} crates")
-    return made
+    Raises Unproved with the end of what the checker said, if one isn't proved."""
+    found = dict[str, Path]()
+    for name in names:
+        made = room / f"{name}.rlib"
+        words = words_of(table, name, found, str(table.folder(name) / "src/lib.rt"))
+        words += ["--jobs", str(host.places()), "--statements", "-o", str(made)]
+        ran = run([str(checker()), "build", *words], room)
+        if ran.status:
+            raise Unproved("\n".join([*ran.said.split("\n")[-LINES_OF_A_FAULT:], f"cdc6600: {name} isn't proved"]))
+        found[name] = made
+    return found
 
 
-def archive(kit: Path, room: Path, made: Path, target: str) -> Path:
+def archive(building: Building, target: str) -> Path:
     """Puts the crate's functions, and the kit's calls of the C library if it has them, into one archive; its file."""
-    file, calls = room / ARCHIVE, [f"{kit}/c/liblibc_c.a"] * (target == NATIVE)
-    ran = run([f"{kit}/toolchain/bin/llvm-ar", "qLcs", str(file), str(made), *calls], room)
+    file, calls = building.room / ARCHIVE, [f"{building.kit}/c/liblibc_c.a"] * (target == NATIVE)
+    ran = run([f"{building.kit}/toolchain/bin/llvm-ar", "qLcs", str(file), str(building.made(CRATE)), *calls],
+              building.room)
     if ran.status:
         raise Unproved(f"{ran.said.rstrip()}\ncdc6600: the archive isn't made")
     return file
@@ -98,25 +122,25 @@ def shared(kit: Path, room: Path, *parts: str | Path) -> Path:
     return room / SHARED
 
 
-def make(table: Table, target: str, room: Path, folder: Path) -> None:
+def prove(table: Table, target: str, room: Path, folder: Path) -> None:
     """Proves the crate, and keeps its archive and its bitcode in a folder."""
-    kit, begun, bitcode, below = checker().parent.parent, time.time(), room / BITCODE, table.below(CRATE)
-    libraries = left_by_rt_ci(table, below) or proved(table, below, room)
-    words = ["--toolchain", str(keeping.toolchain(kit, room, bitcode)), "--backend", "llvm"]
-    words += ["--crate-type", "staticlib"]
-    words += ["--target", target] if target != NATIVE else []
-    made = built(table, libraries, room / f"{CRATE}.a", words)
+    begun, bitcode = time.time(), room / BITCODE
+    words = ("--target", target) if target != NATIVE else ()
+    product = Product(LIBRARY.source, LIBRARY.ending, (*LIBRARY.words, *words))
+    building = Building(table, CRATE, product, room, left_libraries(table))
+    building.toolchain = keeping.toolchain(building.kit, room, bitcode)
+    building.prove_all()
     put(bitcode, folder / BITCODE, begun)
-    put(archive(kit, room, made, target), folder / ARCHIVE, begun)
+    put(archive(building, target), folder / ARCHIVE, begun)
 
 
 def keep_shared(folder: Path, sources: bytes) -> None:
     """Keeps the shared library that is linked of an archive, with the sum of the sources of both."""
     archived, file = folder / ARCHIVE, folder / SHARED
     if not file.is_file() or file.stat().st_mtime < archived.stat().st_mtime:
-        with temporary() as room:
+        with tempfile.TemporaryDirectory(prefix="cdc6600-") as room:
             parts = ("--whole-archive", archived, "--no-whole-archive")
-            put(shared(checker().parent.parent, room, *parts), file, archived.stat().st_mtime)
+            put(shared(checker().parent.parent, Path(room), *parts), file, archived.stat().st_mtime)
     file.with_name(f"{SHARED}.sources").write_bytes(sources)
 
 
@@ -132,8 +156,8 @@ def kept(target: str = NATIVE) -> Path:
     with locked(folder / ARCHIVE):
         sources, changed = source_sum(ROOT), newest(table, [*table.below(CRATE), CRATE])
         if any(not it.is_file() or it.stat().st_mtime < changed for it in files):
-            with temporary() as room:
-                make(table, target, room, folder)
+            with tempfile.TemporaryDirectory(prefix="cdc6600-") as room:
+                prove(table, target, Path(room), folder)
         if target == NATIVE:
             keep_shared(folder, sources)
     return folder

@@ -1,23 +1,18 @@
-"""Runs commands, and the work of a tool, so that all of it ends when the tool is ended."""
+"""Runs commands, all of which end when the run is ended."""
 
 import os
-import shutil
 import signal
 import subprocess
-import tempfile
-import time
-from contextlib import suppress
+import threading
+from contextlib import contextmanager
 from dataclasses import dataclass
 from pathlib import Path
-from typing import Any, Callable
+from typing import Iterator, TextIO
 
-PIPED: dict[str, Any] = {"stdin": subprocess.DEVNULL, "stdout": subprocess.PIPE, "stderr": subprocess.STDOUT,
-                         "encoding": "utf-8", "errors": "replace"}
-# The signals that end a tool, and what it waits for besides: the end of its work.
+from cdc6600.crates.table import Unreadable
+
+# The signals that end a run.
 ENDING = (signal.SIGTERM, signal.SIGHUP, signal.SIGINT)
-AWAITED = {*ENDING, signal.SIGCHLD}
-# The seconds after which a folder is removed again.
-MOMENT, ATTEMPTS = 0.1, 50
 
 
 @dataclass
@@ -29,41 +24,76 @@ class Ran:
     seconds: float
 
 
-def run(words: list[str], folder: Path, heed: Callable[[str], None] = lambda _: None) -> Ran:
-    """Runs a command in a folder to its end. `heed` is called with each line that it says. If `heed` raises something,
-    the command ends with the tool."""
-    child, said = subprocess.Popen(words, cwd=folder, **PIPED), list[str]()
-    for line in child.stdout or ():
-        said.append(line)
-        heed(line)
-    _, ended, used = os.wait4(child.pid, 0)
-    child.returncode = os.waitstatus_to_exitcode(ended)
-    return Ran(child.returncode, "".join(said), used.ru_utime + used.ru_stime)
+class Running:
+    """The commands that run, each with the processes that it started, so that all end together, and no new one
+    begins."""
+
+    def __init__(self) -> None:
+        self.lock, self.children, self.is_ended = threading.Lock(), set[subprocess.Popen[bytes]](), False
+
+    def start(self, words: list[str], folder: Path, said: TextIO) -> subprocess.Popen[bytes]:
+        with self.lock:
+            if self.is_ended:
+                raise Unreadable("the run was ended")
+            child = subprocess.Popen(words, cwd=folder, start_new_session=True, stdin=subprocess.DEVNULL, stdout=said,
+                                     stderr=subprocess.STDOUT)
+            self.children.add(child)
+            return child
+
+    def forget(self, child: subprocess.Popen[bytes]) -> None:
+        with self.lock:
+            self.children.discard(child)
+
+    def end(self) -> None:
+        with self.lock:
+            self.is_ended = True
+            for child in self.children:
+                os.killpg(child.pid, signal.SIGTERM)
 
 
-def attended(work: Callable[[], int]) -> int:
-    """Does the work of a tool in a process of its own, with a folder for its temporary files; its status. A signal ends
-    it with all that it has started. Both processes return from here."""
-    signal.pthread_sigmask(signal.SIG_BLOCK, AWAITED)
-    room = tempfile.mkdtemp(prefix="cdc6600-")
-    os.chmod(room, 0o711)  # for the user as whom `rt ci` runs the program
-    child = os.fork()
-    if not child:
-        os.setsid()
-        signal.pthread_sigmask(signal.SIG_UNBLOCK, AWAITED)
-        tempfile.tempdir = os.environ["TMPDIR"] = room
-        return work()
-    while (number := signal.sigwait(AWAITED)) == signal.SIGCHLD:
-        if os.waitid(os.P_PID, child, os.WEXITED | os.WNOHANG | os.WNOWAIT):
-            break
-    for end in (os.killpg, os.kill):
-        with suppress(ProcessLookupError):
-            end(child, signal.SIGKILL)
-    status = os.waitstatus_to_exitcode(os.waitpid(child, 0)[1])
-    # What was just killed may still write into the folder for a moment.
-    for _ in range(ATTEMPTS):
-        shutil.rmtree(room, ignore_errors=True)
-        if not os.path.exists(room):
-            break
-        time.sleep(MOMENT)
-    return status if number == signal.SIGCHLD else 128 + number
+RUNNING = Running()
+
+
+@contextmanager
+def put_off() -> Iterator[None]:
+    """Delays the signals that end the run until the block is left. Only the main thread handles signals."""
+    if threading.current_thread() is not threading.main_thread():
+        yield
+        return
+    caught = list[int]()
+    before = {number: signal.signal(number, lambda it, _: caught.append(it)) for number in ENDING}
+    try:
+        yield
+    finally:
+        for number, handler in before.items():
+            signal.signal(number, handler)
+        if caught:
+            signal.raise_signal(caught[0])
+
+
+def run(words: list[str], folder: Path) -> Ran:
+    """Runs a command to its end, with what it says in the folder's file `said`."""
+    with open(folder / "said", "w+", errors="replace", encoding="utf-8") as said:
+        child = None
+        try:
+            # A signal between the start of the command and this assignment would leave the command running.
+            with put_off():
+                child = RUNNING.start(words, folder, said)
+            _, ended, used = os.wait4(child.pid, 0)
+            child.returncode = os.waitstatus_to_exitcode(ended)
+        except BaseException:
+            # A signal ends this process. The command ends first, so that it writes nothing more into the folder.
+            RUNNING.end()
+            if child:
+                child.wait()
+            raise
+        finally:
+            if child:
+                RUNNING.forget(child)
+        said.seek(0)
+        return Ran(child.returncode, said.read(), used.ru_utime + used.ru_stime)
+
+
+def stop_all() -> None:
+    """Ends the commands that this process started."""
+    RUNNING.end()

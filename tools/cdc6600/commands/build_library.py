@@ -8,23 +8,24 @@ shared library is linked of it by the kit's linker. With the target aarch64-unkn
 on ARM. Then it lacks those calls, which are ten lines of C in docs/use/emulators.md, and there is no shared library.
 
 The libraries are also kept in crates/embedding/out, where the tools find the shared one. If those there are newer than
-every source, nothing is proved. The crates below are proved as tools/build-program proves them, and `embedding` over
-them by the kit's checker, which can also build it for another processor. Where `rt ci` has left the libraries of all
-that stand below in the checkout, and each is newer than every source of its own, these aren't proved again.
+every source, nothing is proved. The crates are proved as tools/build-program proves them. Where `rt ci` has left the
+libraries of all that stand below in the checkout, and each is newer than every source of its own, these aren't proved
+again. Otherwise those aren't that tools/build-program has kept of the sources as they are.
 
 With --unproved nothing is proved, which is told. What it was built from is written to libcdc6600.so.unproved.sources.
 
-On standard error it tells which crates are proved. Where one isn't proved, it prints the end of what the checker said
-of it, and ends with status 1.
+On standard error it tells which crates are proved, and about how long the others will take. Where one isn't proved, it
+prints the end of what the checker said of it, and ends with status 1.
 """
 
 import argparse
 import shutil
 import sys
+import tempfile
 import time
 from pathlib import Path
 
-from cdc6600.building.building import ended, locked, put, source_sum, tell, temporary
+from cdc6600.building.building import ended, locked, put, source_sum, tell
 from cdc6600.building.library import ARCHIVE, HEADER, NATIVE, SHARED, TARGETS, kept
 from cdc6600.crates.kit import checker
 from cdc6600.crates.table import Table
@@ -43,9 +44,9 @@ def arguments() -> argparse.Namespace:
 def put_unproved(file: Path) -> None:
     """Builds the shared library of the sources without their proof."""
     tell("UNPROVED: the library is built from the sources without their proof, which takes one or two minutes")
-    with locked(file), temporary() as room:
+    with locked(file), tempfile.TemporaryDirectory(prefix="cdc6600-") as room:
         begun, sources = time.time(), source_sum(ROOT)
-        put(unproved.library(Table(ROOT), checker().parent.parent, room), file, begun)
+        put(unproved.library(Table(ROOT), checker().parent.parent, Path(room)), file, begun)
         file.with_name(f"{file.name}.sources").write_bytes(sources)
 
 

@@ -22,6 +22,7 @@ of which it can't tell. The very last line is `N passed, M failed`. The status i
 """
 
 import argparse
+import signal
 import sys
 import tempfile
 from datetime import date
@@ -30,7 +31,6 @@ from typing import Iterable, Sequence
 
 from cdc6600.building import host
 from cdc6600.building.building import Unproved, commit_of
-from cdc6600.building.processes import attended
 from cdc6600.crates.crate import EDITS
 from cdc6600.crates.kit import logic
 from cdc6600.crates.table import Table, Unreadable
@@ -158,8 +158,10 @@ def work() -> int:
 
 
 def main() -> int:
+    for signals in (signal.SIGTERM, signal.SIGHUP):
+        signal.signal(signals, lambda *_: sys.exit(1))
     try:
-        return attended(work)
+        return work()
     except (Unreadable, Unproved) as reason:
         print(f"tools/wrong-bodies: {reason}")
         return 1

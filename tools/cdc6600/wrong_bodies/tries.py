@@ -14,7 +14,7 @@ from typing import Callable, Mapping, Sequence
 
 from cdc6600.building import host
 from cdc6600.building.library import left_by_rt_ci, proved
-from cdc6600.building.processes import Ran
+from cdc6600.building.processes import Ran, stop_all
 from cdc6600.crates.source import Item, Sources, module_of
 from cdc6600.crates.table import Table, Unreadable
 
@@ -207,12 +207,16 @@ class Tries:
         left = [(crate, group) for crate in self.crates for group in crate.groups]
         busy: dict[Future[dict[str, Verdict]], Crate] = {}
         with ThreadPoolExecutor(self.at_once) as pool:
-            while left or busy:
-                while left and len(busy) < self.at_once and (not busy or host.free_memory() >= host.NEEDED):
-                    crate, group = left.pop(0)
-                    busy[pool.submit(self.judged, crate, group)] = crate
-                for ended in wait(busy, timeout=10, return_when=FIRST_COMPLETED).done:
-                    crate = busy.pop(ended)
-                    crate.verdicts |= ended.result()
-                    if all(it is not crate for it in [*busy.values(), *(it for it, _ in left)]):
-                        is_tried(crate)
+            try:
+                while left or busy:
+                    while left and len(busy) < self.at_once and (not busy or host.free_memory() >= host.NEEDED):
+                        crate, group = left.pop(0)
+                        busy[pool.submit(self.judged, crate, group)] = crate
+                    for ended in wait(busy, timeout=10, return_when=FIRST_COMPLETED).done:
+                        crate = busy.pop(ended)
+                        crate.verdicts |= ended.result()
+                        if all(it is not crate for it in [*busy.values(), *(it for it, _ in left)]):
+                            is_tried(crate)
+            except BaseException:
+                stop_all()
+                raise
