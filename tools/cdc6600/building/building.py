@@ -128,6 +128,29 @@ def work_of(table: Table, names: Iterable[str]) -> dict[str, float]:
     return {name: seconds.get(name, pace * lines[name]) for name in names}
 
 
+def words_of(table: Table, name: str, libraries: Mapping[str, Path], top: str) -> list[str]:
+    """The words by which the checker reads a crate, from this source on, over the libraries below it."""
+    kit, below = checker().parent.parent, {it: libraries[it] for it in table.below(name)}
+    found = ["--crate-name", name, top]
+    for it in ["std", *table.uses[name]]:
+        found += ["--extern", f"{it}={below.get(it, kit / f'rlibs/{it}.rlib')}"]
+    for place in dict.fromkeys([*(file.parent for file in below.values()), kit / "rlibs"]):
+        found += ["-L", f"dependency={place}"]
+    return [*found, "--logic-built", f"{kit}/logic_built", "--antt-project", f"{kit}/rattle/logic/antt-project.json"]
+
+
+def proved(name: str, words: list[str], folder: Path) -> float:
+    """Proves a crate by this command in a folder; the seconds of a processor that it took.
+
+    Raises Unproved with the end of the checker's output if the crate isn't proved."""
+    ran = run(words, folder)
+    lines = [line for line in ran.said.rstrip().split("\n") if not line.startswith("statements ")]
+    verdict = lines[-1] if lines[-1].startswith("logic=proved ") else ""
+    if ran.status or not verdict or EXCUSES.search(verdict):
+        raise Unproved("\n".join([*lines[-LINES_OF_A_FAULT:], f"cdc6600: {name} isn't proved"]))
+    return ran.seconds
+
+
 class Building:
     """Proves the crate at the top and those below it, each into a folder of its own in the room. The libraries that are
     given are proved already."""
@@ -162,18 +185,12 @@ class Building:
 
     def words(self, name: str) -> list[str]:
         """The words by which the checker proves a crate and builds it over the libraries below it."""
-        below, folder = self.table.below(name), self.sources(name)
-        root = folder / "src" / (self.product.source if name == self.top else "lib.rt")
-        found = ["nice", "-n", str(self.plan.nice[name]), str(checker()), "build", "--crate-name", name, str(root)]
-        for it in ["std", *self.table.uses[name]]:
-            found += ["--extern", f"{it}={self.made(it) if it in below else f'{self.kit}/rlibs/{it}.rlib'}"]
-        for it in below:
-            found += ["-L", f"dependency={self.made(it).parent}"]
-        found += ["-L", f"dependency={self.kit}/rlibs", "--logic-built", f"{self.kit}/logic_built"]
-        found += ["--antt-project", f"{self.kit}/rattle/logic/antt-project.json", "--jobs", str(self.jobs(name))]
+        root = self.sources(name) / "src" / (self.product.source if name == self.top else "lib.rt")
+        below = {it: self.made(it) for it in self.table.below(name)}
         compiling = ["--toolchain", str(self.toolchain), "--backend", "llvm", *self.product.words]
-        found += compiling if name == self.top else ["--statements"]
-        return [*found, "-o", str(self.made(name))]
+        return ["nice", "-n", str(self.plan.nice[name]), str(checker()), "build",
+                *words_of(self.table, name, below, str(root)), "--jobs", str(self.jobs(name)),
+                *(compiling if name == self.top else ["--statements"]), "-o", str(self.made(name))]
 
     def jobs(self, name: str) -> int:
         """How many processes a check may use. With several it takes a fourth more of processor time, so only those
@@ -186,12 +203,7 @@ class Building:
         Raises Unproved with the end of what the checker said, where it isn't proved."""
         (self.room / name).mkdir()
         self.forecast.begin(name, time.monotonic())
-        ran = run(self.words(name), self.room / name)
-        lines = [line for line in ran.said.rstrip().split("\n") if not line.startswith("statements ")]
-        verdict = lines[-1] if lines[-1].startswith("logic=proved ") else ""
-        if ran.status or not verdict or EXCUSES.search(verdict):
-            raise Unproved("\n".join([*lines[-LINES_OF_A_FAULT:], f"cdc6600: {name} isn't proved"]))
-        self.seconds[name] = ran.seconds
+        self.seconds[name] = proved(name, self.words(name), self.room / name)
 
     def tell(self, name: str) -> None:
         """Tells that a crate is proved, and about how long the others will take."""

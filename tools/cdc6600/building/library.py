@@ -9,14 +9,16 @@ import shutil
 import tempfile
 import time
 from pathlib import Path
-from typing import Iterable, Mapping, Sequence
+from typing import Iterable, Sequence
 
 from cdc6600.crates.kit import checker
 from cdc6600.crates.table import Table
 from cdc6600.shared.program import ROOT, is_current
 
 from . import host, keeping
-from .building import LIBRARY, LINES_OF_A_FAULT, Building, Product, Unproved, locked, put, source_sum, tell
+from .building import (
+    LIBRARY, Building, Product, Unproved, locked, proved, put, source_sum, tell, words_of,
+)
 from .processes import run
 
 CRATE, PROGRAM = "embedding", "operator_main"
@@ -75,30 +77,16 @@ def left_libraries(table: Table) -> dict[str, Path]:
     return left_by_rt_ci(table, table.below(CRATE)) or (kept_ones if is_current(folder) else {})
 
 
-def words_of(table: Table, name: str, libraries: Mapping[str, Path], top: str) -> list[str]:
-    """The words by which the checker reads a crate, from this source on, over the libraries below it."""
-    kit, below = checker().parent.parent, {it: libraries[it] for it in table.below(name)}
-    found = ["--crate-name", name, top]
-    for it in ["std", *table.uses[name]]:
-        found += ["--extern", f"{it}={below.get(it, kit / f'rlibs/{it}.rlib')}"]
-    for place in dict.fromkeys([*(file.parent for file in below.values()), kit / "rlibs"]):
-        found += ["-L", f"dependency={place}"]
-    return [*found, "--logic-built", f"{kit}/logic_built", "--antt-project", f"{kit}/rattle/logic/antt-project.json"]
-
-
-def proved(table: Table, names: Sequence[str], room: Path) -> dict[str, Path]:
+def proved_libraries(table: Table, names: Sequence[str], room: Path) -> dict[str, Path]:
     """The libraries of these crates, lowest first, proved one after another.
 
-    Raises Unproved with the end of what the checker said, if one isn't proved."""
+    Raises Unproved with the end of the checker's output if a crate isn't proved."""
     found = dict[str, Path]()
     for name in names:
-        made = room / f"{name}.rlib"
         words = words_of(table, name, found, str(table.folder(name) / "src/lib.rt"))
-        words += ["--jobs", str(host.places()), "--statements", "-o", str(made)]
-        ran = run([str(checker()), "build", *words], room)
-        if ran.status:
-            raise Unproved("\n".join([*ran.said.split("\n")[-LINES_OF_A_FAULT:], f"cdc6600: {name} isn't proved"]))
-        found[name] = made
+        words += ["--jobs", str(host.places()), "--statements", "-o", str(room / f"{name}.rlib")]
+        proved(name, [str(checker()), "build", *words], room)
+        found[name] = room / f"{name}.rlib"
     return found
 
 

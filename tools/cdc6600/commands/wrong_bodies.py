@@ -1,8 +1,8 @@
 """Tries the wrong bodies of the crates: the prover has to refuse each at a goal of its own function's contract.
 
     tools/wrong-bodies              tries the bodies that have no valid row in docs/proof/all-wrong-bodies.txt
-    tools/wrong-bodies CRATE..      tries those of these crates
-    tools/wrong-bodies --write      also writes the rows, each time that a crate is done
+    tools/wrong-bodies CRATE..      tries only the bodies of these crates
+    tools/wrong-bodies --write      also writes the rows of a crate as soon as the crate is done
     tools/wrong-bodies --all        ignores the rows
     tools/wrong-bodies --prover     asks the prover alone, and runs no body
 

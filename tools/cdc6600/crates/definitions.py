@@ -1,11 +1,11 @@
-"""The definitions in a crate's folder specs, and what they name."""
+"""The definitions in a crate's folder specs, and the names that they cite."""
 
 import re
 from functools import lru_cache
 from pathlib import Path
 from typing import Iterator
 
-# A line that brings in definitions by their names, or a module by a name for it.
+# A line that imports definitions, or a module by another name.
 USE = re.compile(
     r"^ *(?:pub )?(?:ghost )?use Rattle\.(\w+)\.specs\.([\w.]+?)(?:\.\{([^}]*)\}| as (\w+));?$", re.MULTILINE
 )
@@ -15,8 +15,8 @@ NAME = re.compile(r"[^\W\d][\w'-]*(?:\.[\w'-]+)*")
 
 
 def imported(text: str) -> tuple[dict[str, str], dict[str, str]]:
-    """What the lines `use` of a text bring in: each name with its definition, as `machine/Tokens:is_live`, and each
-    name for a module with that module."""
+    """The imports of a text: each name with its definition, as `machine/Tokens:is_live`, and each name for a module
+    with that module."""
     bound, alias = dict[str, str](), dict[str, str]()
     for crate, path, names, other in USE.findall(text):
         module = f"{crate}/{path.replace('.', '/')}"
@@ -30,8 +30,8 @@ def imported(text: str) -> tuple[dict[str, str], dict[str, str]]:
 
 
 class Module:
-    """A file of definitions of a crate: its name, as `machine/Tokens`, what it brings in, and each definition with its
-    lines and the number of its first line."""
+    """A file of definitions: its name, as `machine/Tokens`, its imports, and each definition with its lines and the
+    number of its first line."""
 
     def __init__(self, folder: Path, file: Path) -> None:
         self.path = f"crates/{file.relative_to(folder.parent)}"
@@ -51,7 +51,7 @@ class Module:
         return self.definitions[name].startswith("unfoldable ")
 
     def named_in(self, name: str) -> Iterator[str]:
-        """What the lines of a definition name, each as `machine/Tokens:is_live`; some are no definitions."""
+        """The names in a definition, each as `machine/Tokens:is_live`. Some of them are no definitions."""
         text = self.definitions[name]
         for found in NAME.finditer(text):
             word, _, rest = found[0].partition(".")

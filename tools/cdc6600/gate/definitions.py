@@ -25,8 +25,8 @@ NAMING = ("Definition", "Contract", "Code")
 
 
 def missing(column: str, name: str, rest: str) -> list[str]:
-    """What isn't there of what a cell names: `crate/File.antt: name, name`, `crate/file.rt: function (clause, clause),
-    Type::function`, or the path of a proof or an edit."""
+    """The names of an item in a cell that no crate has. An item is `crate/File.antt: name, name`, or `crate/file.rt:
+    function (clause, clause), Type::function`, or the path of a proof or an edit."""
     if column == "Definition":
         module = name.removesuffix(".antt")
         return [it for it in re.split(", *", rest) if not FILES.has_definition(f"{module}:{it}")]
@@ -40,7 +40,7 @@ def missing(column: str, name: str, rest: str) -> list[str]:
 
 
 def fault_of_item(column: str, item: str) -> str | None:
-    """What is wrong with what a cell names."""
+    """The fault of an item in a cell, or None."""
     name, _, rest = item.partition(": ")
     unread = functions_in(rest)[1] if column in ("Contract", "Code") else ""
     if column == "Source" or "/" not in name or unread or bool(rest) != (column in NAMING):
@@ -50,7 +50,7 @@ def fault_of_item(column: str, item: str) -> str | None:
 
 
 def faults_of_row(line: str) -> Iterator[str]:
-    """What is wrong with a row of a table of rules."""
+    """The faults of a row in a table of rules."""
     _, _, *found = line.split("|")
     if len(found) != 7:
         yield f"a row has seven cells, and not {len(found)}"
@@ -69,7 +69,7 @@ def faults_of_row(line: str) -> Iterator[str]:
 
 
 def faults_of_tables() -> Iterator[str]:
-    """What is wrong with the tables of rules, and with what `tools/where` finds by them of each refusal."""
+    """The faults of the tables of rules, and the refusals for which `tools/where` finds too little by them."""
     lines = list(lines_of_rules())
     for number, line in lines:
         if line.startswith("| Rule |"):

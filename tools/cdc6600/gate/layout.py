@@ -21,8 +21,8 @@ HEADING = re.compile(r"#+ |\*\*[^*]+\*\*$")
 
 
 def faults_of(page: str) -> Iterator[str]:
-    """What is wrong with the layout of a page, a text for each line."""
-    # Of a block of code only its lines are left, so that the other lines keep their numbers.
+    """The faults in the layout of a page, a text for each."""
+    # A block of code becomes as many lines without text, so that the other lines keep their numbers.
     text = CODE.sub(lambda code: "    \n" * code[0].count("\n") + "    ", (ROOT / page).read_text(encoding="utf-8"))
     lines = text.split("\n")
     for number, (before, line) in enumerate(zip(["", *lines], lines), 1):

@@ -65,7 +65,7 @@ BITS = "it is a pattern of bits, and no limit"
 WAITS = has("decks/run/endless.dump", "LOG E40 I1000000")
 FULL_HOPPER = has("decks/sessions/full-hopper.answers", "E11 hopper full")
 
-# For each limit what goes past it, or why nothing can.
+# For each limit, a case that goes past it, or the reason why no case can.
 LIMITS: dict[str, Past | str] = {
     # The machine.
     "instructions/src/limits.rt MOST_ISSUES": has("crates/operator_main/src/command_tests.rt", "{more}"),

@@ -14,7 +14,7 @@
 - Links: the target of a link in a page is there, with the section if one is named. Targets in the web aren't looked up.
 - Examples: each block of Rust in docs/work/threads.md is in the test that it is from.
 
-Run it after a change of names, of where files are, or of that page or test.
+Run it after a change of names, of where files are, of docs/work/threads.md or of its test.
 """
 
 import re
@@ -188,7 +188,7 @@ def faults_of_links(page: str, lines: list[str]) -> Iterator[str]:
 
 
 def faults_of_examples() -> Iterator[str]:
-    """The blocks of Rust that their test doesn't have."""
+    """The blocks of Rust on the page that aren't in its test."""
     text, source = ((ROOT / path).read_text(encoding="utf-8") for path in (EXAMPLES, OF_EXAMPLES))
     for found in RUST.finditer(text):
         if found[1] not in source:

@@ -16,7 +16,7 @@ from cdc6600.shared.program import ROOT
 
 from .parts import file_of, is_test, module
 
-# How a program is compiled from a text, and run.
+# The text of a program, and the shell command that compiles and runs it.
 COMPILED = {
     "cc": ("#include <stdio.h>\nint main(void) { return puts(\"\") < 0; }\n", '${CC:-cc} -x c -o "$0" - && "$0"'),
     "rustc": ("fn main() {}\n", 'rustc -o "$0" - && "$0"'),

@@ -13,11 +13,11 @@ from .parts import told, tracked
 
 IMPORTS = re.compile(r"^ *(?:import|from)\b[^(\n]*(?:\([^)]*\))?", re.MULTILINE)
 READING = re.compile(r"\b(?:states_by_rules|judging_by_rules|texts_by_rules|second_reading)\b")
-ASKING = re.compile(r"\bcdc6600(?:\.| import )asking\b")
+ASKING = re.compile(r"\basking\b")
 
 
 def faults_of(path: str) -> list[str]:
-    """What a module imports and may not."""
+    """The forbidden imports of a module."""
     unwanted = ASKING if READING.search(path) else READING
     imports = IMPORTS.findall((ROOT / path).read_text(encoding="utf-8"))
     return [f"{path}: it may not have `{words}`" for words in imports if unwanted.search(words)]

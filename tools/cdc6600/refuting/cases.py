@@ -3,8 +3,8 @@ bodies.
 
 Those of the program are the stored sessions and decks, the rows of the pages of refusals and requests, the commands of
 the page of commands, and drawn sessions. Runs by threads come first for a crate that only they use, and last for the
-others, since they take longest. Where such a run may have several logs, it may have another one of them than the right
-one. Those of a crate of tests are its tests.
+others, since they take longest. If such a run may have several logs, any of them is right. The cases of a crate of
+tests are its tests.
 """
 
 import random
@@ -26,7 +26,7 @@ from .choosing import STARTING
 # A body may run on and on, and print on and on. The right program's longest case takes less than a tenth of these
 # seconds on an idle machine, and prints less than a hundredth of these bytes.
 SECONDS, BYTES = 30, 1 << 24
-# What kills a command after these seconds with all that it has started, and itself too.
+# The words before a command that kill it after this time, with all its processes and with `timeout` itself.
 TIMED, TIMED_OUT = ["timeout", "-s", "KILL", str(SECONDS)], -signal.SIGKILL
 # The program without its proof takes minutes for these decks.
 LONG = {"endless"}
@@ -37,14 +37,14 @@ PROMPT, NAMED = "$ ", "./cdc6600"
 
 @dataclass(frozen=True)
 class Ran:
-    """How a run ended: what it wrote, and its status, negative if a signal ended it."""
+    """The end of a run: its output, and its status, which is negative if a signal ended it."""
 
     status: int
     printed: bytes
     told: bytes
 
     def lines(self) -> list[str]:
-        """What it wrote, and how it ended, in lines that may be printed."""
+        """The output and the end of the run, as lines that can be printed."""
         ends = {TIMED_OUT: f"no end in {SECONDS} seconds", -signal.SIGSEGV: "a fault of memory"}
         text = (self.printed + self.told).decode("ascii", "replace")
         return [*text.splitlines(), ends.get(self.status, f"status {self.status}")]

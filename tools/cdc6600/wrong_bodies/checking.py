@@ -8,7 +8,8 @@ from dataclasses import replace
 from pathlib import Path
 from typing import Iterable, Mapping
 
-from cdc6600.building.library import PARTS, words_of
+from cdc6600.building.building import words_of
+from cdc6600.building.library import PARTS
 from cdc6600.building.processes import Ran, run
 from cdc6600.crates.kit import checker
 from cdc6600.crates.table import Table

@@ -57,7 +57,7 @@ def sum_of_crate(table: Table, crate: str) -> str:
 
 
 class Row(NamedTuple):
-    """For what a verdict is valid: a body, the number of the kit's logic, and the checksum of its inputs."""
+    """The key of a verdict: a body, the number of the kit's logic, and the checksum of the verdict's inputs."""
 
     body: str
     logic: str

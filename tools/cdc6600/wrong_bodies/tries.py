@@ -13,7 +13,7 @@ from pathlib import Path
 from typing import Callable, Mapping, Sequence
 
 from cdc6600.building import host
-from cdc6600.building.library import left_by_rt_ci, proved
+from cdc6600.building.library import left_by_rt_ci, proved_libraries
 from cdc6600.building.processes import Ran, stop_all
 from cdc6600.crates.source import Item, Sources, module_of
 from cdc6600.crates.table import Table, Unreadable
@@ -123,7 +123,7 @@ class Tries:
         self.crates = sorted(crates, key=lambda it: -len(table.below(it.name)))
         needed = {name for crate in crates if crate.groups for name in table.below(crate.name)}
         below = [name for name in table.lines if name in needed]
-        self.libraries = left_by_rt_ci(table, below) or (proved(table, below, Path(room)) if below else {})
+        self.libraries = left_by_rt_ci(table, below) or (proved_libraries(table, below, Path(room)) if below else {})
 
     def judged(self, crate: Crate, group: Group) -> dict[str, Verdict]:
         """The verdict on each body of a group, by its name."""
